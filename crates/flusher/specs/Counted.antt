@@ -7,14 +7,14 @@ use Rattle.peer_queue.specs.declared.settled.Settled.{Settled}
 use Rattle.peer_queue.specs.declared.settled.Settled.TheVariants.{Answered, Dropped, Later, Ready}
 use Rattle.flusher.specs.Shares.{FeederCount}
 
--- how many debts more are answered, where one became this
+-- by how many debts the answered ones rise if this became of a debt
 abbrev pub answered_by : Settled → ℕ
 answered_by (Answered code) = 1
 answered_by (Dropped cause) = 0
 answered_by (Later moment) = 0
 answered_by Ready = 0
 
--- how many more are dropped
+-- by how many the dropped ones rise
 abbrev pub dropped_by : Settled → ℕ
 dropped_by (Answered code) = 0
 dropped_by (Dropped cause) = 1
@@ -26,7 +26,7 @@ pub record Counts (settled : Settled) (old new : FeederCount) : Type 0 where
   pub answered : new.answered ≡ old.answered + answered_by settled
   pub dropped : new.dropped ≡ old.dropped + dropped_by settled
 
--- A debt became this by its outcome, told at this moment to a station of some limits, and a share counts it.
+-- A debt became this by its outcome, at this moment, at a station of some limits, and a share counts it.
 pub record IsCounted (outcome : Outcome) (now : ℕ) (settled : Settled) (old new : FeederCount) : Type 0 where
   pub limits : Limits
   pub became : settled ≡ settled_by limits now outcome

@@ -14,27 +14,27 @@ use Rattle.flusher.specs.declared.fault.PostFault.TheVariants.{Station, Intake, 
 use Rattle.flusher.specs.declared.fault.TakeFault.{TakeFault}
 use Rattle.flusher.specs.declared.fault.TakeFault.TheVariants.{Stranger as OtherMark, Station as OfStation}
 
--- the station of this peer refused, by a fault of this kind
+-- the station of this peer refused, with a fault of this kind
 abbrev pub IsOfStation : ℕ → (StationFault → Type 0) → PostFault → Type 0
 IsOfStation peer Kind (Station at fault) = (at ≡ peer) × Kind fault
 IsOfStation peer Kind fault = ⊥
 
--- so, or what lay behind a lock of this peer was another's
+-- the same, or a lock of this peer held what is another peer's
 abbrev pub IsOfPeer : ℕ → (StationFault → Type 0) → PostFault → Type 0
 IsOfPeer peer Kind (Station at fault) = (at ≡ peer) × Kind fault
 IsOfPeer peer Kind (Stranger at) = at ≡ peer
 IsOfPeer peer Kind fault = ⊥
 
--- the faults that a station's `shed` tells
+-- the faults that a front's `shed` returns
 abbrev pub IsShedFault : StationFault → Type 0
 IsShedFault fault = (fault ≡ BrokenStation) ⊎ (fault ≡ NoStationMemory)
 
--- the faults that a station tells that takes a line
+-- the faults that a front returns which takes a line
 abbrev pub IsTakeFault : TakeFault → Type 0
 IsTakeFault OtherMark = Unit {0}
 IsTakeFault (OfStation fault) = IsOweFault fault
 
--- a good line names this peer, which is one of these
+-- the line is valid and names this peer, which is one of these
 pub record IsNamedBy (line : List ℕ) (names : List (List ℕ)) (peer : ℕ) : Type 0 where
   pub token : List ℕ
   pub id : List ℕ
@@ -43,7 +43,7 @@ pub record IsNamedBy (line : List ℕ) (names : List (List ℕ)) (peer : ℕ) : 
   pub within : peer < length names
   pub names_it : Contains named (slice_index_or names peer [])
 
--- the faults that `take_line` tells, where only stations of such peers are asked
+-- the faults that `take_line` returns, if only fronts of such peers are asked
 abbrev pub IsLineFault : (ℕ → Type 0) → PostFault → Type 0
 IsLineFault IsAsked (Station at fault) = IsAsked at × IsOweFault fault
 IsLineFault IsAsked CountFull = Unit {0}
@@ -51,7 +51,7 @@ IsLineFault IsAsked (Stranger at) = IsAsked at
 IsLineFault IsAsked NoMemory = Unit {0}
 IsLineFault IsAsked fault = ⊥
 
--- the faults of the intake tape that `flush_all` tells
+-- the faults of the intake tape that `flush_all` returns
 abbrev pub IsSealFault : TapeFault → Type 0
 IsSealFault Disk = Unit {0}
 IsSealFault Broken = Unit {0}
@@ -65,21 +65,21 @@ abbrev pub IsRoundTapeFault : TapeFault → Type 0
 IsRoundTapeFault (RefusedNote fault) = Unit {0}
 IsRoundTapeFault fault = IsFlushTapeFault fault
 
--- the faults of a station that a round of flushing tells
+-- the faults of a station that a round of flushing returns
 abbrev pub IsRoundFault : StationFault → Type 0
 IsRoundFault BrokenStation = Unit {0}
 IsRoundFault (Tape fault) = IsRoundTapeFault fault
 IsRoundFault NoStationMemory = Unit {0}
 IsRoundFault fault = ⊥
 
--- the faults that the flush of one peer tells, where a station tells these
+-- the faults that the flush of one peer returns, if a station returns these
 abbrev pub IsPartFault : ℕ → (StationFault → Type 0) → PostFault → Type 0
 IsPartFault peer Kind (Station at fault) = (at ≡ peer) × Kind fault
 IsPartFault peer Kind (Stranger at) = at ≡ peer
 IsPartFault peer Kind NoMemory = Unit {0}
 IsPartFault peer Kind fault = ⊥
 
--- the faults that `flush_all` tells of so many peers
+-- the faults that `flush_all` returns, with this many peers
 abbrev pub IsFlushAllFault : ℕ → PostFault → Type 0
 IsFlushAllFault peers (Station at fault) = (at < peers) × IsRoundFault fault
 IsFlushAllFault peers (Stranger at) = at < peers
@@ -87,18 +87,18 @@ IsFlushAllFault peers NoMemory = Unit {0}
 IsFlushAllFault peers (Intake fault) = IsSealFault fault
 IsFlushAllFault peers fault = ⊥
 
--- the faults that a round of flushing tells of a station that is not broken
+-- the faults that a round of flushing returns of a station that is not broken
 abbrev pub IsWorkingFlushFault : StationFault → Type 0
 IsWorkingFlushFault fault = IsRoundFault fault × (fault ≢ BrokenStation)
 
--- the faults that `flush_working` tells of so many peers
+-- the faults that `flush_working` returns, with this many peers
 abbrev pub IsFlushWorkingFault : ℕ → PostFault → Type 0
 IsFlushWorkingFault peers (Station at fault) = (at < peers) × IsWorkingFlushFault fault
 IsFlushWorkingFault peers (Stranger at) = at < peers
 IsFlushWorkingFault peers NoMemory = Unit {0}
 IsFlushWorkingFault peers fault = ⊥
 
--- the faults that a station's `put_off` tells
+-- the faults that a front's `put_off` returns
 abbrev pub IsPutOffFault : StationFault → Type 0
 IsPutOffFault fault = (fault ≡ BrokenStation) ⊎ (fault ≡ NotHeld)
 
@@ -106,7 +106,7 @@ IsPutOffFault fault = (fault ≡ BrokenStation) ⊎ (fault ≡ NotHeld)
 abbrev pub IsDiskFault : StationFault → Type 0
 IsDiskFault fault = (fault ≡ Tape Disk) ⊎ (fault ≡ BrokenStation)
 
--- the faults that `rotate_all` tells of so many peers
+-- the faults that `rotate_all` returns, with this many peers
 abbrev pub IsRotateAllFault : ℕ → PostFault → Type 0
 IsRotateAllFault peers (Station at fault) = (at < peers) × IsDiskFault fault
 IsRotateAllFault peers (Stranger at) = at < peers

@@ -1,4 +1,4 @@
--- What a flush tells of a tape.
+-- What a flush reports of a tape.
 use Rattle.std.specs.Prelude.{◌≡◌}
 use Rattle.disk_model.specs.declared.Disk.{Ghosts}
 use Rattle.flusher.specs.declared.tape_desk.Flush.{Flush}

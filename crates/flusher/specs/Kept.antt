@@ -5,7 +5,7 @@ use Rattle.peer_queue.specs.Words.{AreHonest, StandsFor}
 use Rattle.recovery.specs.Notes.{History}
 
 -- On honest disks the station stands for some history: its ledger is the one after the acknowledged notes, followed
--- by the notes that pend, and whatever a stop leaves now is a tape that stands for the ledger after the first of them
+-- by the notes that pend, and whatever a stop leaves now is a tape that stands for the ledger after a prefix of them
 -- with every acknowledged one.
 abbrev pub IsKept : {D : Type 0} {g : Ghosts D} → Station D g → Type 0
 IsKept {D} {g} station = AreHonest station → (h : History) × StandsFor station h

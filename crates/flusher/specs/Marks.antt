@@ -5,27 +5,27 @@ use Rattle.funnel.specs.Line.{IsFunnelLine}
 use Rattle.flusher.specs.Faults.{IsLineFault, IsNamedBy}
 use Rattle.flusher.specs.declared.fault.PostFault.{PostFault}
 
--- The mark of the peer of this name is raised to the number where it is below it, if the peer is named, and stays else.
+-- If the peer of this name is named, and its mark is below the number, the mark is raised to it; otherwise it stays.
 abbrev pub IsRaisedAt : ℕ → List (List ℕ) → List ℕ → ℕ → ℕ → Type 0
 IsRaisedAt number named name old new = (Contains named name → new ≡ max old number)
     × ((Contains named name → ⊥) → new ≡ old)
 
--- so at each of these peers
+-- the same at each of these peers
 abbrev pub IsRaisedBy : ℕ → List (List ℕ) → List (List ℕ) → List ℕ → List ℕ → Type 0
 IsRaisedBy number named names old new =
     (peer : ℕ) → peer < length names
     → IsRaisedAt number named (slice_index_or names peer []) (slice_index old peer) (slice_index new peer)
 
--- The marks of the stations that a line owes to are raised to its number, where they are below it, and no others:
--- those whose peers a good line names, and of a line that is not good none.
+-- The marks of the peers that a valid line names are raised to its number if they are below it, and no others. A
+-- malformed line raises none.
 abbrev pub IsRaised : ℕ → List ℕ → List (List ℕ) → List ℕ → List ℕ → Type 0
 IsRaised number line names old new =
     ((token id : List ℕ) (named : List (List ℕ)) → IsFunnelLine line token id named
     → IsRaisedBy number named names old new)
     × (((token id : List ℕ) (named : List (List ℕ)) → IsFunnelLine line token id named → ⊥) → new ≡ old)
 
--- A line of this number is refused: the first so many of the peers have taken it, as far as it names them, and none
--- behind those; and a station's fault, or a stranger, is told of the peer that comes next, which a good line names.
+-- A line of this number is refused: the first N peers, for some N, have taken it, as far as it names them, and none
+-- after them. A station's fault, or Stranger, is that of the peer that comes next, which the valid line names.
 pub record RefusesLine (number : ℕ) (line : List ℕ) (names : List (List ℕ)) (fault : PostFault) (old new : List ℕ) :
     Type 0 where
   pub reached : ℕ
@@ -33,7 +33,7 @@ pub record RefusesLine (number : ℕ) (line : List ℕ) (names : List (List ℕ)
   pub behind : (peer : ℕ) → reached ≤ peer → slice_index new peer ≡ slice_index old peer
   pub kinds : IsLineFault (λ at. (at ≡ reached) × IsNamedBy line names at) fault
 
--- So of a good line, which names these peers: it names the peer that comes next, whatever the fault.
+-- The same of a valid line, which names these peers: it names the peer that comes next, whatever the fault is.
 pub record RefusesGood (number : ℕ) (named names : List (List ℕ)) (fault : PostFault) (old new : List ℕ) : Type 0 where
   pub reached : ℕ
   pub raised : IsRaisedBy number named (take reached names) old new

@@ -13,7 +13,7 @@ pub record Counts : Type 0 where
 abbrev pub counts_of : State → Counts
 counts_of state = record { taken = state.taken; answered = state.answered; dropped = state.dropped }
 
--- Two ledgers of one count: the one whose shares the workers have, and the one whose shares lie beside the stations
+-- Two ledgers of one count: the one whose shares the workers have, and the one whose shares are beside the stations
 pub record Pair : Type 0 where
   pub workers : ℕ
   pub stations : ℕ
@@ -31,7 +31,7 @@ pub record Names : Type 0 where
 abbrev pub no_pair : Pair
 no_pair = record { workers = 0; stations = 0 }
 
--- of no ledger
+-- the names of no ledger
 abbrev pub no_names : Names
 no_names = record {
   taken = no_pair;

@@ -37,7 +37,8 @@ total sums = record {
 abbrev pub pair_of : BlankPair → Pair
 pair_of pair = record { workers = pair.workers.name; stations = pair.stations.name }
 
--- Unused ledgers, and queues, for so many peers.
+-- Unused ledgers, and queues, for this many peers. A ledger has as many parts as there are holders of a share of it:
+-- the intake alone for what is taken; two feeders and the flusher for the other two counts; each station.
 pub record IsFor (peers : ℕ) (blanks : Blanks) : Type 0 where
   pub taken : (blanks.taken.workers.parts ≡ 1) × (blanks.taken.stations.parts ≡ peers)
   pub answered : (blanks.answered.workers.parts ≡ 3) × (blanks.answered.stations.parts ≡ peers)
@@ -61,6 +62,6 @@ module _ {D : Type 0} {g : Ghosts D} where
         tables = map (λ (q : BlankQueue). q.queue.table.shared.table_id) blanks.queues.items;
       }
 
-  -- what the front counts of a peer that was taken from a post
+  -- what the front counts, of a peer that was taken from a post
   abbrev pub sums_in : ClosedPeer D g → Sums
   sums_in peer = sums_of_shape (front_shape peer.ends.front)

@@ -1,4 +1,4 @@
--- What is told of a peer's station.
+-- What is reported of a peer's station.
 use Rattle.std.specs.Prelude.{◌≡◌, Bool, OnErr, OnOk, Result, true, false}
 use Rattle.ledger_core.specs.Ledger.{totals_of}
 use Rattle.ledger_core.specs.State.{State}

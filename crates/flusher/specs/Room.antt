@@ -6,12 +6,12 @@ use Rattle.recovery.specs.declared.tape.Tape.{Tape}
 use Rattle.peer_queue.specs.Words.{IsSame, generation_of, tape_of}
 use Rattle.peer_queue.specs.declared.station.Station.{Station}
 
--- a tally has no room for what one call may count, 65,536 and one
+-- a tally has no room for what one call may count, 65,536, and one more
 abbrev pub IsCountFull : ℕ → Type 0
 IsCountFull count = 2 ^ 64 ≤ count + 65537
 
 module _ {D : Type 0} {g : Ghosts D} where
-  -- There is room for what pends neither behind what lies on the station's tape, nor where the tape is written anew.
+  -- There is no room for what pends, neither after what is on the station's tape, nor if the tape is rewritten.
   pub record HasNoRoom (station : Station D g) : Type 0 where
     pub full : IsFull (tape_of station)
     -- the station as the refused flush leaves it: nothing has changed
@@ -19,7 +19,7 @@ module _ {D : Type 0} {g : Ghosts D} where
     pub same : IsSame station left
     pub anew : (generation_of left ≡ 2 ^ 64 - 1) ⊎ RotatesTooLong (tape_of left)
 
-  -- So of a tape, which a refused flush leaves as it is.
+  -- The same of a tape, which a refused flush leaves as it is.
   pub record TapeHasNoRoom (tape : Tape D g) : Type 0 where
     pub full : IsFull tape
     pub anew : (tape_generation tape ≡ 2 ^ 64 - 1) ⊎ RotatesTooLong tape

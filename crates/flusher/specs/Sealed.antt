@@ -8,11 +8,11 @@ use Rattle.peer_queue.specs.declared.station.Station.{Station}
 use Rattle.recovery.specs.Words.{ledger_of as tape_ledger, pending_of as tape_pending}
 use Rattle.recovery.specs.declared.tape.Tape.{Tape}
 
--- how many notes its tape counts once all that are noted at a front are on it, or the greatest u64 if that is less
+-- how many notes its tape counts once all that are noted at a front are on it, at most the greatest u64
 abbrev pub noted_at : Front → ℕ
 noted_at front = min (settled_of front + front_pending front) (2 ^ 64 - 1)
 
--- so many of the front's notes are settled, as its tape counts them
+-- this many of the front's notes are settled, as its tape counts them
 abbrev pub HasSettled : ℕ → Front → Type 0
 HasSettled count front = count ≤ settled_of front
 

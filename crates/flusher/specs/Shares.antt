@@ -1,8 +1,8 @@
 -- What the workers' shares have counted.
 use Rattle.std.specs.Prelude.{◌≡◌, ℕ, List}
 
--- how many debts the intake counted as taken, the mark of each station as it knows it, and the number of the last line
--- that was taken
+-- how many debts the intake counted as taken, the mark of each station as the intake knows it, and the number of the
+-- last line that was taken
 pub record IntakeCount : Type 0 where
   pub taken : ℕ
   pub marks : List ℕ

@@ -27,7 +27,7 @@ use std::sync::{Mutex, MutexGuard, Wait};
 // Half of the notes that may pend at a front.
 const HALF: usize = MOST_PENDING / 2;
 
-// How often a call that waits for nobody looks whether a lock is free.
+// How often a call that waits for nobody looks whether a lock is free, before it is refused.
 const LOOKS: u32 = 100;
 
 impl<D: Disk, N: Naming> Post<D, N> {
@@ -46,8 +46,8 @@ impl<D: Disk, N: Naming> Post<D, N> {
         self.peers[peer].front.lock(rt).totals()
     }
 
-    /// What is told of a peer's station: what it counts; once a flush or a rotation of it has failed, what it counted
-    /// when it was last flushed well, written anew, or opened.
+    /// What to report of a peer's station: what it counts; once a flush or a rotation of it has failed, what it counted
+    /// when it was last flushed, rewritten or opened successfully.
     pub fn reported<R: Wait>(&self, rt: &R, peer: usize) -> Reported
         requires { peer < length self.now.names }
         ensures sum { result.totals.taken ≡ result.totals.owed + result.totals.answered
@@ -56,7 +56,7 @@ impl<D: Disk, N: Naming> Post<D, N> {
         self.peers[peer].front.lock(rt).reported()
     }
 
-    /// How many debts a peer is owed, without a wait. None where the peer's front is in use.
+    /// How many debts a peer is owed. Waits for nobody: `None` if the peer's front is in use.
     pub fn try_owed(&self, peer: usize) -> Option<u64>
         requires { peer < length self.now.names }
     {
@@ -71,7 +71,7 @@ impl<D: Disk, N: Naming> Post<D, N> {
         self.peers[peer].front.lock(rt).all_later()
     }
 
-    /// Answers what [`Post::all_later`] does, and waits for nobody. None where the peer's front is in use.
+    /// [`Post::all_later`], but waits for nobody: `None` if the peer's front is in use.
     pub fn try_all_later(&self, peer: usize) -> Option<bool>
         requires { peer < length self.now.names }
     {
@@ -79,8 +79,8 @@ impl<D: Disk, N: Naming> Post<D, N> {
         Some(desk.all_later())
     }
 
-    /// Whether at a peer's front half of the notes that may pend have come to pend, since this was asked last: one
-    /// caller is told so, and is to order a flush.
+    /// Whether half of the notes that may pend at a peer's front have come to pend since the last call. Only one caller
+    /// gets `true`, and orders a flush.
     pub fn take_half_full(&self, peer: usize) -> bool
         requires { peer < length self.now.names }
     {
@@ -88,29 +88,29 @@ impl<D: Disk, N: Naming> Post<D, N> {
         half_full.load(Ordering::SeqCst) && half_full.swap(false, Ordering::SeqCst)
     }
 
-    /// A feeder gives a peer up. Answers how many had done so before.
+    /// A feeder gives a peer up. Returns how many had done so before.
     pub fn give_up(&self, peer: usize) -> u64
         requires { peer < length self.now.names }
     {
         self.peers[peer].given_up.fetch_add(1, Ordering::SeqCst)
     }
 
-    // A peer's front, where it is free, or is so at once.
+    // A peer's front, if it is free, or soon is.
     pub(crate) fn free_front(&self, peer: usize) -> Option<MutexGuard<'_, FrontDesk<N>>>
         requires { peer < length self.now.names }
     {
         free(&self.peers[peer].front)
     }
 
-    // A peer's tape, where it is free, or is so at once.
+    // A peer's tape, if it is free, or soon is.
     pub(crate) fn free_tape(&self, peer: usize) -> Option<MutexGuard<'_, TapeDesk<D, N>>>
         requires { peer < length self.now.names }
     {
         free(&self.peers[peer].tape)
     }
 
-    // Sends what a peer's front has not sent to its tape, in order, until the queue refuses a note. What is not sent
-    // stays unsent, as all of another peer's front does.
+    // Sends what a peer's front has not sent to its tape, in order, until the queue is full. The rest stays unsent; of
+    // another peer's front nothing is sent.
     pub(crate) fn send<R: Wait>(
         &self,
         rt: &R,
@@ -134,15 +134,14 @@ impl<D: Disk, N: Naming> Post<D, N> {
         }
     }
 
-    /// Makes all ready that this connection held.
+    /// Makes all debts ready that this connection held, and returns how many.
     pub fn release<R: Wait>(&self, rt: &R, peer: usize, connection: CxnId) -> u64
         requires { peer < length self.now.names }
     {
         self.peers[peer].front.lock(rt).release(connection)
     }
 
-    /// Does what [`Post::release`] does, and waits for nobody. None where the peer's front is in use: nothing has
-    /// changed.
+    /// [`Post::release`], but waits for nobody: `None` if the peer's front is in use, and nothing has changed.
     pub fn try_release(&self, peer: usize, connection: CxnId) -> Option<u64>
         requires { peer < length self.now.names }
     {
@@ -150,8 +149,8 @@ impl<D: Disk, N: Naming> Post<D, N> {
         Some(desk.release(connection))
     }
 
-    /// Takes a debt back to its peer's station, and has it wait until this moment; until 0 is no wait: it is ready. No
-    /// share counts it.
+    /// Takes a debt back to its peer's station, and makes it wait until this moment; until 0 is no wait: it is ready.
+    /// No share counts it.
     ///
     /// # Errors
     /// The debt is handed back. The station's, in this order: `Broken`; `NotHeld`.
@@ -176,7 +175,7 @@ impl<D: Disk, N: Naming> Post<D, N> {
         )
     }
 
-    /// Does what [`Post::put_off`] does, and waits for nobody.
+    /// [`Post::put_off`], but waits for nobody.
     ///
     /// # Errors
     /// Those of `put_off`; `Busy` if the peer's front is in use: nothing has changed.
@@ -201,7 +200,7 @@ impl<D: Disk, N: Naming> Post<D, N> {
     /// Drops what exceeds a peer's limit, and counts it.
     ///
     /// # Errors
-    /// `CountFull` where the tally of what was dropped has no room for 65,537 more; then the station's.
+    /// `CountFull` if the tally of dropped debts has no room for 65,537 more; then the station's.
     pub fn shed<R: Wait>(
         &self,
         rt: &R,
@@ -223,11 +222,11 @@ impl<D: Disk, N: Naming> Post<D, N> {
         shed
     }
 
-    /// Takes what a connection tells of a debt to its peer's station, and counts what became of it.
+    /// Takes a connection's outcome of a debt to its peer's station, and counts what became of the debt.
     ///
     /// # Errors
-    /// The outcome is handed back. `CountFull` where the tally of what was answered, or of what was dropped, has no
-    /// room for 65,537 more; then the station's.
+    /// The outcome is handed back. `CountFull` if the tally of answered debts, or that of dropped debts, has no room
+    /// for 65,537 more; then the station's.
     pub fn finish<R: Wait>(
         &self,
         rt: &R,
@@ -250,10 +249,10 @@ impl<D: Disk, N: Naming> Post<D, N> {
         self.finish_at(rt, peer, &mut desk, connection, outcome, now, mine)
     }
 
-    /// Does what [`Post::finish`] does, and does not wait for the peer's front.
+    /// [`Post::finish`], but does not wait for the peer's front.
     ///
     /// # Errors
-    /// Those of `finish`; `Busy` where the front is in use: nothing has changed.
+    /// Those of `finish`; `Busy` if the front is in use: nothing has changed.
     pub fn try_finish<R: Wait>(
         &self,
         rt: &R,
@@ -281,7 +280,7 @@ impl<D: Disk, N: Naming> Post<D, N> {
         }
     }
 
-    // Takes what a connection tells of a debt to its peer's front, counts what became of it, and sends what is unsent.
+    // Takes a connection's outcome of a debt to its peer's front, counts what became of it, and sends what is unsent.
     fn finish_at<R: Wait>(
         &self,
         rt: &R,
@@ -308,7 +307,7 @@ impl<D: Disk, N: Naming> Post<D, N> {
         finished
     }
 
-    // Takes what a connection tells of a debt to its peer's front, and counts in the tally what became of it.
+    // Takes a connection's outcome of a debt to its peer's front, and counts in the tally what became of it.
     fn finish_counted<R: Wait>(
         &self,
         rt: &R,
@@ -331,8 +330,7 @@ impl<D: Disk, N: Naming> Post<D, N> {
         finish_in(peer, desk, &mut tally, connection, outcome, now, mine)
     }
 
-    // Notes whether half of the notes that may pend have come to pend at a peer's front, with this many before and this
-    // many now.
+    // Remembers it if a call has brought a peer's front to half of the notes that may pend there.
     pub(crate) fn note_half_full(&self, peer: usize, before: usize, now: usize)
         requires { peer < length self.now.names }
     {
@@ -342,7 +340,7 @@ impl<D: Disk, N: Naming> Post<D, N> {
     }
 }
 
-// Takes a debt back to its peer's front, and has it wait until this moment.
+// Takes a debt back to its peer's front, and makes it wait until this moment.
 fn put_off_at<N: Naming>(
     peer: usize,
     desk: &mut FrontDesk<N>,
@@ -390,7 +388,7 @@ fn shed_in<N: Naming>(
     }
 }
 
-// Takes what a connection tells of a debt to its peer's front, and counts what became of it in this tally.
+// Takes a connection's outcome of a debt to its peer's front, and counts what became of it in this tally.
 fn finish_in<N: Naming>(
     peer: usize,
     desk: &mut FrontDesk<N>,
@@ -420,7 +418,7 @@ fn finish_in<N: Naming>(
     }
 }
 
-// What a lock keeps, where the lock is free, or is so at once.
+// What a lock keeps, if the lock is free, or soon is.
 fn free<T>(lock: &Mutex<T>) -> Option<MutexGuard<'_, T>> {
     for _ in 0..LOOKS {
         if let Some(free) = lock.try_lock() {

@@ -15,13 +15,13 @@ use ledger_core::{Debt, Key};
 use std::sync::Wait;
 
 impl<D: Disk, N: Naming> Post<D, N> {
-    /// Claims the least candidate of a peer: its key under the front's lock; its texts there, too, as long as the front
-    /// has them, and else from the tape, under its lock alone, which may have to be waited for as long as a flush
-    /// lasts. A key whose texts can't be had is given back: it is ready.
+    /// Claims the least candidate of a peer: its key under the front's lock, and its texts there, too, as long as the
+    /// front has them. Otherwise they are read from the tape, under the tape's lock alone; that may mean waiting for a
+    /// flush. A key whose texts can't be had is given back: it is ready.
     ///
     /// # Errors
-    /// The station's, in this order: `Broken`; `NoMemory`; `Tape(Disk)`, of a read that failed. `Stranger`, which no
-    /// run meets: the tape doesn't owe what the front does.
+    /// The station's, in this order: `Broken`; `NoMemory`; `Tape(Disk)` if a read failed. `Stranger`, which no run
+    /// meets, if the tape doesn't owe what the front does.
     pub fn claim<R: Wait>(
         &self,
         rt: &R,
@@ -44,11 +44,11 @@ impl<D: Disk, N: Naming> Post<D, N> {
         }
     }
 
-    /// Does what [`Post::claim`] does, and waits for no tape.
+    /// [`Post::claim`], but waits for no tape.
     ///
     /// # Errors
-    /// Those of `claim`; `Busy` if the peer's front is in use: nothing has changed; or if its tape is, which alone has
-    /// the texts: the key is given back.
+    /// Those of `claim`; `Busy` if the peer's front is in use, and nothing has changed, or if the tape is in use that
+    /// alone has the texts, and the key is given back.
     pub fn try_claim<R: Wait>(
         &self,
         rt: &R,
@@ -77,7 +77,7 @@ impl<D: Disk, N: Naming> Post<D, N> {
         }
     }
 
-    // The debt of a key that was claimed; a key whose texts were not read is given back.
+    // Hands out the debt of a claimed key, or gives the key back if its texts were not read.
     fn handed<R: Wait>(
         &self,
         rt: &R,

@@ -55,7 +55,7 @@ pub struct Closed<D: Disk> {
 pub enum CloseFault<D: Disk, N: Naming> {
     /// Memory was refused: everything is handed back.
     NoMemory(Unclosed<D, N>),
-    /// What lay behind a lock of this peer was another peer's. No run meets it; all that was taken apart is let go.
+    /// A lock of this peer held what is another peer's. No run meets it; all that was taken apart is let go.
     Stranger { peer: usize },
 }
 
@@ -83,7 +83,7 @@ struct Closing<N: Naming> {
 }
 
 impl<N: Naming> Closing<N> {
-    // One peer more, the one at this place. None if what lay behind a lock of it was another peer's.
+    // Puts together one more peer, the one at this place. `None` if one of its locks held what is another peer's.
     fn peer<D: Disk + Drop, R: Wait>(
         &mut self,
         rt: &R,
@@ -146,10 +146,10 @@ impl<N: Naming> Closing<N> {
 }
 
 impl<D: Disk + Drop, N: Naming> Post<D, N> {
-    /// Closes a post whose workers have ended: gives of each peer its front and its tape, with the notes that were on
-    /// their way between them, its intake tape, and what its workers counted, which is by how much the counts of the
-    /// stations have risen since it was made. Of each peer the tape's ledger, then a note kept beside it, the queue's
-    /// notes and those that were not sent, has the shape of the front's.
+    /// Closes a post whose workers have ended. Returns each peer's front and tape, with the notes that were on their
+    /// way between them; the intake tape; and what the workers counted, which is by how much the stations' counts have
+    /// risen since the post was made. For each peer the tape's ledger, followed by the kept note, the queue's notes
+    /// and those that were not sent, has the shape of the front's.
     ///
     /// # Errors
     /// `NoMemory`: all is handed back. `Stranger`, which no run meets: all is let go.
@@ -251,7 +251,7 @@ struct Room {
     ghost room: { 1024 ≤ vec_capacity notes },
 }
 
-// Room for so many peers, and for the notes of their queues.
+// Room for this many peers, and for the notes of their queues.
 fn rooms<D: Disk + Drop>(
     alloc: Global,
     count: usize,
@@ -271,7 +271,7 @@ fn rooms<D: Disk + Drop>(
     Ok((closed, rooms))
 }
 
-// The shares of three feeders in one.
+// The shares of three workers, merged.
 fn joined<N: Naming>(
     first: FeederShare<N>,
     second: FeederShare<N>,

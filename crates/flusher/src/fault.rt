@@ -19,8 +19,8 @@ pub enum PostFault {
     /// The line's number, or a tally, would pass its greatest value.
     #[error("CountFull")]
     CountFull,
-    /// The mark of this peer's front is not the share's; or what its front, its tape or a lock of its tells is another
-    /// peer's. No run meets it.
+    /// The mark of this peer's front is not the share's; or the front or the tape that was found at its place is
+    /// another peer's; or the tape doesn't owe what the front does. No run meets it.
     #[error("Stranger")]
     Stranger { peer: usize },
     /// Memory was refused.
@@ -74,7 +74,7 @@ impl PostFault {
     }
 }
 
-// Why a station did not take a line.
+// Why a front did not take a line.
 #[derive(Clone, Copy, Debug, PartialEq, Eq)]
 pub(crate) enum TakeFault {
     Stranger,

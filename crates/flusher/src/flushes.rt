@@ -1,4 +1,4 @@
-// The flusher: the worker that puts on the disks what pends.
+// The flusher: the worker that puts the notes that pend on the disks.
 ghost use Rattle.std.specs.Prelude.{◌≡◌, Err, IfErr, IsSome, None, Some};
 ghost use Rattle.flusher.specs.Faults.{IsOfTape};
 
@@ -13,16 +13,16 @@ use std::rt::Clock;
 use std::sync::Wait;
 use std::time::Instant;
 
-// From how many seconds on a flush is told of, as slow.
+// A flush that takes this many seconds or more is logged as slow.
 const SLOW: u64 = 1;
 
 /// Flushes all stations and the intake tape, for each order and once a second without one, until it is told to end.
-/// Before the flush of an order it drops what exceeds the peers' limits; behind each flush it writes the tapes anew for
+/// Before the flush of an order it drops what exceeds the peers' limits; after each flush it rewrites the tapes for
 /// which that is due.
 ///
 /// Once a tape has failed, as this or another worker found, it flushes the stations that work, as often as before and
-/// once more at its end, so that the answers of their peers are kept: nothing is dropped or written anew any more, and
-/// no receipt comes. Every other fault ends it, and stops all workers.
+/// once more at its end, so that the answers of their peers are kept. It drops and rewrites nothing any more, and no
+/// receipt comes. Every other fault ends it, and stops all workers.
 #[derive(Drop)]
 pub struct Flusher<N: Naming> {
     /// What it has dropped.
@@ -56,8 +56,8 @@ impl<N: Naming> Flusher<N> {
         Ok(())
     }
 
-    // Flushes all, before it what exceeds the limits is dropped, if that was ordered, and tells the receipt, of so many
-    // orders.
+    // Flushes everything, and signals the receipt for this many orders. If the flush was ordered, what exceeds the
+    // limits is dropped first.
     fn flush<D: Disk, R: Wait + Clock + Log, P: Pace>(
         &mut self,
         rt: &R,
@@ -105,7 +105,7 @@ impl<N: Naming> Flusher<N> {
         unreachable!()
     }
 
-    // Goes on after a tape's fault, which is kept if it is the first, and told in the log if it is not.
+    // Goes on after a tape's fault. The first is kept; a later one is logged.
     fn meet<R: Log>(
         &mut self,
         rt: &R,
@@ -143,7 +143,7 @@ impl<D: Disk, N: Naming> Work<D, N> for Flusher<N> {
     }
 }
 
-// Tells of a flush that began at this moment, where it took long.
+// Logs a flush that began at this moment, if it took long.
 fn tell_slow<R: Clock + Log>(rt: &R, begun: Instant) {
     if let Ok(passed) = begun.elapsed(rt)
         && passed.as_secs() >= SLOW

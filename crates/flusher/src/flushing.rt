@@ -17,12 +17,12 @@ use recovery::TapeFault;
 use std::sync::Wait;
 
 impl<D: Disk, N: Naming> Post<D, N> {
-    /// Puts all that pends on the disks: the notes of the stations by name, each in rounds until all is settled that
-    /// pended when its part began, and then, with the number that the last line had before, the intake's. If a tape has
-    /// no room for what pends behind what lies there, it is written anew, with what pends.
+    /// Puts all that pends on the disks: peer by peer in the order of their names, each in rounds until all is settled
+    /// that pended when its part began; and then, on the intake's tape, the number that the last line had before the
+    /// first flush. If a tape has no room for what pends, it is rewritten, the notes that pend included.
     ///
     /// # Errors
-    /// A station's: `Tape(TapeFull)` if what it owes is too long to be written anew too, or if its tape has the
+    /// A station's: `Tape(TapeFull)` if what it owes is too long even for a rewritten tape, or if its tape has the
     /// greatest generation; `Tape(Note)`, which no run meets; `NoMemory`. `NoMemory` if the copy of a note found none.
     /// `Stranger`, which no run meets. Then the intake tape's.
     pub fn flush_all<P: Pace, R: Wait>(&self, rt: &R, pace: &P) -> Result<Receipt, PostFault>
@@ -49,7 +49,7 @@ impl<D: Disk, N: Naming> Post<D, N> {
         ensures flushed { OnOk result (sealing.new.flushed ≡ sealing.old.flushed + 1) }
         ensures kinds { IfErr result (IsPartFault peer IsRoundFault) }
     {
-        // The number behind this peer's is one that there is.
+        // For the prover: there is a number after this peer's.
         let _peers = self.peers();
         let due = self.due(rt, peer, sealing)?;
         let settlement = self.settle_peer(rt, pace, peer, due.count())?;
@@ -81,12 +81,12 @@ impl<D: Disk, N: Naming> Post<D, N> {
         }
     }
 
-    /// Puts on the disks what pends at each station that works, by name, as [`Post::flush_all`] does. A station that is
-    /// broken is passed over, and after one's fault the others are flushed too. No receipt comes of it, and the intake
-    /// tape is left alone: so the answers of other peers are kept once a tape has failed.
+    /// Puts on the disks what pends at each station that works, as [`Post::flush_all`] does. A broken station is
+    /// skipped, and after one's fault the others are still flushed. It gives no receipt, and leaves the intake tape
+    /// alone. So the answers of the other peers are kept once a tape has failed.
     ///
     /// # Errors
-    /// The first that a station tells, once all were flushed: `Tape(Disk)`, after which that station is broken;
+    /// The first that a station reports, once all were flushed: `Tape(Disk)`, after which that station is broken;
     /// `Tape(TapeFull)`; `NoMemory`; and, which no run meets, `Tape(Note)`, `Stranger`.
     pub fn flush_working<P: Pace, R: Wait>(&self, rt: &R, pace: &P) -> Result<(), PostFault>
         ensures kinds { IfErr result (IsFlushWorkingFault (length self.now.names)) }
@@ -123,8 +123,8 @@ impl<D: Disk, N: Naming> Post<D, N> {
         }
     }
 
-    /// Writes each tape anew for which that is due: the stations' by name, and then the intake's. One that is refused
-    /// without a fault of its disks stays as it is.
+    /// Rewrites each tape for which that is due: the stations', and then the intake's. A tape whose rewriting is
+    /// refused without a fault of its disks stays as it is.
     ///
     /// # Errors
     /// A station's or the intake's `Disk`, after which that tape is broken, or its `Broken`. `Stranger`, which no run
@@ -141,7 +141,7 @@ impl<D: Disk, N: Naming> Post<D, N> {
         }
     }
 
-    // Writes one peer's tape anew, where that is due, and tells its front.
+    // Rewrites one peer's tape, if that is due, and settles at its front what was written.
     fn rotate_one<R: Wait>(&self, rt: &R, peer: usize) -> Result<(), PostFault>
         requires { peer < length self.now.names }
         ensures kinds { IfErr result (IsOfPeer peer IsDiskFault) }
@@ -164,7 +164,7 @@ impl<D: Disk, N: Naming> Post<D, N> {
         }
     }
 
-    // Writes one peer's tape anew, where that is due, under the tape's lock alone.
+    // Rewrites one peer's tape, if that is due, under the tape's lock alone.
     fn rotate_due<R: Wait>(&self, rt: &R, peer: usize) -> Result<Option<Flush>, TapeFault>
         requires { peer < length self.now.names }
         ensures kinds { IfErr result IsRotateFault }
@@ -178,7 +178,7 @@ impl<D: Disk, N: Naming> Post<D, N> {
 }
 
 impl<D: Disk> Intake<D> {
-    // Notes that all lines up to the number are acknowledged that was read before the flushes, and gives the receipt.
+    // Notes that all lines are acknowledged up to the number that was read before the flushes, and makes the receipt.
     fn seal<N: Naming>(&mut self, post: &Post<D, N>, sealing: Sealing) -> Result<Receipt, TapeFault>
         requires { sealing.flushed ≡ length post.now.names }
         ensures kinds { IfErr result IsSealFault }
@@ -201,7 +201,7 @@ impl<D: Disk> Intake<D> {
         Ok(())
     }
 
-    // Writes the intake tape anew, where that is due.
+    // Rewrites the intake tape, if that is due.
     fn rotate(&mut self) -> Result<(), TapeFault> {
         if self.tape.rotate_due() {
             self.tape.rotate()?;

@@ -39,10 +39,11 @@ pub struct FrontDesk<N: Naming> {
     pub(crate) taken: Share<TakenAtStations<N>>,
     pub(crate) answered: Share<AnsweredAtStations<N>>,
     pub(crate) dropped: Share<DroppedAtStations<N>>,
-    // What its tape counted when it was last flushed well, written anew, or opened.
+    // What its tape counted when it was last flushed, rewritten or opened successfully.
     pub(crate) acknowledged: Totals,
     // A flush or a rotation has failed since.
     pub(crate) has_failed: bool,
+    // Each share is exactly one part of its counting ledger.
     ghost one_part: { (taken.parts ≡ 1) × (answered.parts ≡ 1) × (dropped.parts ≡ 1) },
     ghost counted: { (taken.amount ≡ (front_shape (front_of seat.sender)).taken)
         × (answered.amount ≡ (front_shape (front_of seat.sender)).answered)
@@ -78,7 +79,7 @@ impl<N: Naming> FrontDesk<N> {
     ghost use Rattle.peer_queue.specs.Outbox.{Breaks, Learns};
     ghost use Rattle.peer_queue.specs.DebtPlace.{IsLater, held_count, moved, place_until, released};
 
-    /// Takes a good line, where its number is above the mark, and counts it.
+    /// Takes a valid line, if its number is above the mark, and counts it.
     pub fn take(
         &mut self,
         books: &mut Books<TakenByIntake<N>, TakenAtStations<N>>,
@@ -114,7 +115,7 @@ impl<N: Naming> FrontDesk<N> {
         }
     }
 
-    /// Takes what a connection tells of a debt, and counts what became of it.
+    /// Takes a connection's outcome of a debt, and counts what became of the debt.
     pub fn finish(
         &mut self,
         tally: &mut Tally<N>,
@@ -145,8 +146,8 @@ impl<N: Naming> FrontDesk<N> {
         Ok(settled)
     }
 
-    /// Claims the least candidate, whose texts it has, or else the tape. A key whose texts find no memory is given
-    /// back: it is ready.
+    /// Claims the least candidate. Either the front has its texts, or the tape alone does. If the copy of the texts
+    /// finds no memory, the key is given back: it is ready.
     pub fn claim(&mut self, connection: CxnId, now: u64) -> Result<Claimed, StationFault>
         ensures ok { IfOk result
             (Claims connection.0 now (front_of self.old.seat.sender)
@@ -171,7 +172,7 @@ impl<N: Naming> FrontDesk<N> {
         }
     }
 
-    /// Gives back a key that this connection claimed, and whose texts could not be had: it is ready. A broken front
+    /// Gives back a key that this connection claimed, because its texts could not be had: it is ready. A broken front
     /// stays as it is.
     pub fn unclaim(&mut self, connection: CxnId, key: Key)
         ensures { Unclaims connection.0 key (front_of self.old.seat.sender)
@@ -181,7 +182,7 @@ impl<N: Naming> FrontDesk<N> {
         let _ = seat.sender.unclaim(connection, key);
     }
 
-    /// Makes all ready that this connection held.
+    /// Makes all debts ready that this connection held, and returns how many.
     pub fn release(&mut self, connection: CxnId) -> u64
         ensures count { result
             ≡ held_count connection.0 (places_of (front_of self.old.seat.sender)) }
@@ -193,7 +194,7 @@ impl<N: Naming> FrontDesk<N> {
         seat.sender.release(connection)
     }
 
-    /// Takes a debt back, and has it wait until this moment.
+    /// Takes a debt back, and makes it wait until this moment.
     pub fn put_off(
         &mut self,
         connection: CxnId,
@@ -236,7 +237,8 @@ impl<N: Naming> FrontDesk<N> {
         Ok(shed)
     }
 
-    /// What a flush put on the disks is settled, if it is of this front's tape. None if it is not: nothing has changed.
+    /// Settles what a flush has put on the disks. `None`, and nothing has changed, if the flush is not of this front's
+    /// tape.
     pub fn learn(&mut self, flush: &Flush) -> Option<Settlement>
         ensures answer { IsSome result
             ↔ IsAnswered flush.now.flushed (front_of self.old.seat.sender) }
@@ -283,7 +285,7 @@ impl<N: Naming> FrontDesk<N> {
         }
     }
 
-    /// What is told of it.
+    /// What to report of it.
     pub fn reported(&self) -> Reported
         ensures working { self.now.has_failed ≡ false → (result.has_failed ≡ false)
             × (result.totals ≡ shape_totals (front_shape (front_of self.now.seat.sender))) }
@@ -332,7 +334,7 @@ impl<N: Naming> FrontDesk<N> {
         self.seat.sender.front().noted()
     }
 
-    /// Whether so many notes were sent, as its tape counts them.
+    /// Whether this many notes were sent, as its tape counts them.
     pub fn has_sent(&self, count: u64) -> bool
         ensures { IsTrue result ↔ count ≤ min (settled_of (front_of self.now.seat.sender)
             + sent_of (front_of self.now.seat.sender)) (2 ^ 64 - 1) }

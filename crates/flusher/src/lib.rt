@@ -1,8 +1,8 @@
 //! The fronts and the tapes of all peers behind their locks, what is counted of them, and the flusher.
 //!
 //! May touch the disks of the tapes, and wait for locks.
-//! The crates above use `Post`: each call locks one front, or one tape; what is counted across threads is kept by six
-//! ledgers.
+//! The crates above use `Post`: each call locks one front, or one tape. What the threads count is kept by six counting
+//! ledgers (`share.rt` says what those are).
 #![tactic(auto)]
 
 mod calls;

@@ -29,7 +29,7 @@ pub trait AtStations: Ledger {
     ghost opened: { ℕ };
 }
 
-/// What the intake was told is taken: one share.
+/// How many debts the intake counts as taken: one share.
 pub struct TakenByIntake<N: Naming>(PhantomData<N>);
 
 impl<N: Naming> Ledger for TakenByIntake<N> {
@@ -38,7 +38,7 @@ impl<N: Naming> Ledger for TakenByIntake<N> {
     ghost parts = { 1 };
 }
 
-/// What the stations have taken: a share beside each.
+/// How many debts the stations have taken: a share beside each.
 pub struct TakenAtStations<N: Naming>(PhantomData<N>);
 
 impl<N: Naming> Ledger for TakenAtStations<N> {
@@ -51,7 +51,7 @@ impl<N: Naming> AtStations for TakenAtStations<N> {
     ghost opened = { N.names.opened.taken };
 }
 
-/// What the feeders were told is answered: three shares.
+/// How many debts the feeders count as answered: three shares.
 pub struct AnsweredByFeeders<N: Naming>(PhantomData<N>);
 
 impl<N: Naming> Ledger for AnsweredByFeeders<N> {
@@ -60,7 +60,7 @@ impl<N: Naming> Ledger for AnsweredByFeeders<N> {
     ghost parts = { 3 };
 }
 
-/// What the stations have answered: a share beside each.
+/// How many debts the stations have answered: a share beside each.
 pub struct AnsweredAtStations<N: Naming>(PhantomData<N>);
 
 impl<N: Naming> Ledger for AnsweredAtStations<N> {
@@ -73,7 +73,7 @@ impl<N: Naming> AtStations for AnsweredAtStations<N> {
     ghost opened = { N.names.opened.answered };
 }
 
-/// What the feeders were told is dropped: three shares.
+/// How many debts the feeders count as dropped: three shares.
 pub struct DroppedByFeeders<N: Naming>(PhantomData<N>);
 
 impl<N: Naming> Ledger for DroppedByFeeders<N> {
@@ -82,7 +82,7 @@ impl<N: Naming> Ledger for DroppedByFeeders<N> {
     ghost parts = { 3 };
 }
 
-/// What the stations have dropped: a share beside each.
+/// How many debts the stations have dropped: a share beside each.
 pub struct DroppedAtStations<N: Naming>(PhantomData<N>);
 
 impl<N: Naming> Ledger for DroppedAtStations<N> {
@@ -95,7 +95,7 @@ impl<N: Naming> AtStations for DroppedAtStations<N> {
     ghost opened = { N.names.opened.dropped };
 }
 
-/// Two ledgers that are unused.
+/// An unused ledger of the workers, and one of the stations.
 #[derive(Drop)]
 pub struct BlankPair {
     pub workers: Blank,
@@ -135,7 +135,7 @@ impl BlankPair {
 impl Blanks {
     ghost use Rattle.flusher.specs.Post.{IsFor};
 
-    /// Ledgers and queues for so many peers.
+    /// Ledgers and queues for this many peers.
     ///
     /// # Errors
     /// `NoMemory` if memory was refused.
@@ -153,7 +153,7 @@ impl Blanks {
     }
 }
 
-// So many queues.
+// This many queues.
 fn queues(alloc: Global, count: usize) -> Result<Vec<BlankQueue>, AllocError>
     ensures { IfOk result (λ queues. length queues.items ≡ count) }
 {

@@ -27,11 +27,11 @@ use std::alloc::Global;
 /// How many debts were taken, answered and dropped.
 #[derive(Clone, Copy, Debug, PartialEq, Eq)]
 pub struct Sums {
-    /// That a line owed.
+    /// By a line.
     pub taken: u64,
-    /// That the peer answered for good.
+    /// Answered by the peer for good.
     pub answered: u64,
-    /// That ended by a cause of ours.
+    /// Ended by us.
     pub dropped: u64,
 }
 
@@ -104,7 +104,7 @@ impl<D: Disk> Peer<D> {
         self.station.import(number, token, id)
     }
 
-    /// Closes the source that is open, and gives it: the next one is open from now on.
+    /// Closes the source that is open, and returns its number: the next one is open from now on.
     ///
     /// # Errors
     /// Those of [`Station::close_import`], in their order. Nothing changes then.
@@ -119,11 +119,11 @@ impl<D: Disk> Peer<D> {
         self.station.close_import()
     }
 
-    /// Puts the notes that pend on the disks. If there is no room for them behind what lies there, its tape is written
-    /// anew, with what pends.
+    /// Puts the notes that pend on the disks. If there is no room for them after what is there, its tape is rewritten,
+    /// the notes that pend included.
     ///
     /// # Errors
-    /// `Broken`; `NoMemory`; `Tape(TapeFull)` if what it owes is too long to be written anew too, or if its tape has
+    /// `Broken`; `NoMemory`; `Tape(TapeFull)` if what it owes is too long even for a rewritten tape, or if its tape has
     /// the greatest generation; `Tape(Disk)`: the station is broken from now on.
     pub fn flush_or_rotate(&mut self) -> Result<(), StationFault>
         ensures ledger { ledger_of self.new.station ≡ ledger_of self.old.station }

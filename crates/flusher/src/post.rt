@@ -1,4 +1,4 @@
-// Posts: the stations of all peers behind their locks.
+// A post: the stations of all peers, each split, behind their locks.
 ghost use Rattle.std.specs.Prelude.{◌≡◌, ℕ, ◌+◌, ◌-◌, ◌<◌, ◌≤◌, ◌^◌, List, map, length};
 ghost use Rattle.std.specs.Prelude.{sum_by, IfOk, IfErr, OnOk, OnErr};
 ghost use Rattle.std.specs.List.{All};
@@ -39,7 +39,7 @@ pub(crate) struct PeerDesk<D: Disk, N: Naming> {
     pub(crate) queue: NoteQueue,
     pub(crate) front: Mutex<FrontDesk<N>>,
     pub(crate) tape: Mutex<TapeDesk<D, N>>,
-    // Half of the notes that may pend have come to pend, and nobody was told.
+    // Half of the notes that may pend at the front do, and no feeder was told yet.
     pub(crate) half_full: AtomicBool,
     // How many feeders have given it up.
     pub(crate) given_up: AtomicU64,
@@ -56,19 +56,19 @@ pub(crate) struct Intake<D: Disk> {
     pub(crate) tape: Tape<D>,
 }
 
-/// The stations of all peers, each split into a front and a tape, which have locks of their own, and the intake tape
-/// and the tally, each behind another.
+/// The stations of all peers, each split into a front and a tape with locks of their own; the intake tape; and the
+/// tally. Each of these two has a lock, too.
 ///
-/// Tapes are synced under their own locks. No other lock is held then, and nobody waits for one of these but the
-/// flusher, and whoever claims a debt whose texts only the tape has. Locks are taken in this order: the intake's alone;
+/// A tape is synced under its own lock, and no other lock is held meanwhile. Only the flusher waits for a tape's lock,
+/// and whoever claims a debt whose texts are on the tape alone. Locks are taken in this order: the intake's alone;
 /// a tape's alone; a front's, and under it the tally's.
 #[derive(Drop)]
 pub struct Post<D: Disk, N: Naming> {
     pub(crate) alloc: Global,
     pub(crate) peers: Vec<PeerDesk<D, N>>,
     pub(crate) intake: Mutex<Intake<D>>,
-    // The number of the last line that every station has taken that it names, as the intake's share has it: for the
-    // flusher, which reads it before the stations are flushed. The intake alone writes it.
+    // The number of the last line taken by every station it names, as in the intake's share. The intake alone writes
+    // it; the flusher reads it before it flushes the stations.
     pub(crate) last: AtomicU64,
     pub(crate) tally: Mutex<Tally<N>>,
 }
@@ -96,7 +96,7 @@ struct Openings<N: Naming> {
 }
 
 impl<N: Naming> Openings<N> {
-    // One more station, which is split at this place.
+    // Splits the station of one more peer, at this place.
     fn desk<D: Disk + Drop>(
         &mut self,
         peer: Peer<D>,
@@ -166,11 +166,11 @@ impl<N: Naming> Openings<N> {
 }
 
 impl<D: Disk + Drop, N: Naming> Post<D, N> {
-    /// A post of these peers, in byte order of their names, and of the intake tape; what the intake counts by, and
-    /// three shares by which feeders do. Each station is split at its peer's place.
+    /// A post of these peers, in byte order of their names, and of the intake tape; the intake's share; and three
+    /// shares for the two feeders and the flusher. Each station is split at its peer's place.
     ///
     /// # Errors
-    /// `NoMemory` where memory was refused. Nothing is handed back: the tapes are to be opened again.
+    /// `NoMemory` if memory was refused. Nothing is handed back: the tapes have to be opened again.
     pub fn new(
         alloc: Global,
         peers: Vec<Peer<D>>,
@@ -274,7 +274,7 @@ impl<D: Disk + Drop, N: Naming> Post<D, N> {
     }
 }
 
-// The shares of three feeders, which have counted nothing.
+// Cuts the shares of three workers, which have counted nothing.
 fn thirds<N: Naming>(
     answered: Share<AnsweredByFeeders<N>>,
     dropped: Share<DroppedByFeeders<N>>,

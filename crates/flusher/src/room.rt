@@ -11,8 +11,8 @@ use disk_model::Disk;
 use peer_queue::{Station, StationFault};
 use recovery::TapeFault;
 
-/// Puts the notes of a station that pend on the disks. If there is no room for them behind what lies there, as behind
-/// the notes of debts that have long ended, its tape is written anew, with what pends.
+/// Puts the notes of a station that pend on the disks. If there is no room for them after what is there, much of which
+/// may be notes of debts that have long ended, its tape is rewritten, the notes that pend included.
 pub(crate) fn flush_or_rotate<D: Disk>(station: &mut Station<D>) -> Result<(), StationFault>
     ensures ledger { ledger_of station.new ≡ ledger_of station.old }
     ensures places { places_of station.new ≡ places_of station.old }
@@ -29,7 +29,7 @@ pub(crate) fn flush_or_rotate<D: Disk>(station: &mut Station<D>) -> Result<(), S
     }
 }
 
-// Writes its tape anew, in place of a flush for which there is no room. The faults are those of a flush.
+// Rewrites its tape, instead of a flush for which there is no room. The faults are those of a flush.
 fn rotate_full<D: Disk>(station: &mut Station<D>) -> Result<(), StationFault>
     ensures ledger { ledger_of station.new ≡ ledger_of station.old }
     ensures places { places_of station.new ≡ places_of station.old }

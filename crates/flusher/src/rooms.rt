@@ -1,4 +1,4 @@
-// The room that the connections of each peer have for debts, over both feeders.
+// How much room for debts the connections of each peer have, over both feeders.
 ghost use Rattle.std.specs.Prelude.{◌<◌, length};
 
 use crate::{Naming, Post};
@@ -6,10 +6,10 @@ use disk_model::Disk;
 use std::sync::atomic::Ordering;
 
 impl<D: Disk, N: Naming> Post<D, N> {
-    /// Counts room for so many debts more, of a connection that is to be opened, if the peer is owed more debts than
-    /// its counted connections have room for, or if its connections are failing. Answers whether it was counted; None
-    /// if the peer's front is in use. It is decided under the front's lock, so that two feeders do not both take
-    /// the last room.
+    /// Counts the room of a connection that is to be opened, if the peer is owed more debts than its counted
+    /// connections have room for, or if its connections are failing. Returns whether it was counted; `None` if the
+    /// peer's front is in use. This is decided under the front's lock, so that two feeders do not both take the last
+    /// room.
     pub fn try_take_room(&self, peer: usize, room: u64) -> Option<bool>
         requires { peer < length self.now.names }
     {
@@ -28,7 +28,7 @@ impl<D: Disk, N: Naming> Post<D, N> {
         Some(true)
     }
 
-    /// So much room of a peer's connections is no longer counted. No less than none is counted.
+    /// This much room of a peer's connections is no longer counted. The count never falls below 0.
     pub fn give_room(&self, peer: usize, room: u64)
         requires { peer < length self.now.names }
     {
@@ -38,9 +38,9 @@ impl<D: Disk, N: Naming> Post<D, N> {
         });
     }
 
-    /// Tells that a connection of the peer failed, or that one agreed to a mode. While a peer's connections are failing
-    /// each room that is asked for is counted, so that all of its places are tried at once, and a host that is dead
-    /// costs one wait and not one for each place.
+    /// A connection of the peer failed, or one agreed to a mode. While a peer's connections are failing, any room that
+    /// is asked for is counted, so that all its slots are tried at once: a dead host costs one wait, and not one for
+    /// each slot.
     pub fn set_failing(&self, peer: usize, is_failing: bool)
         requires { peer < length self.now.names }
     {

@@ -11,7 +11,8 @@ use recovery::TapeFault;
 use std::sync::Wait;
 
 impl<D: Disk, N: Naming> Post<D, N> {
-    // Settles the first so many notes of a peer's front, as its tape counts them. A fault is told to the front first.
+    // Settles the first `count` notes of a peer's front, as its tape counts them. A fault is reported to the front
+    // before it is returned.
     pub(crate) fn settle_peer<P: Pace, R: Wait>(
         &self,
         rt: &R,
@@ -31,15 +32,16 @@ impl<D: Disk, N: Naming> Post<D, N> {
         settled
     }
 
-    // A flush or a rotation of a peer failed: its front is told, and is cut off if a disk failed, now or before.
+    // Reports to a peer's front that a flush or a rotation failed. The front is cut off if a disk failed, now or
+    // before.
     pub(crate) fn tell_front<R: Wait>(&self, rt: &R, peer: usize, fault: PostFault)
         requires { peer < length self.now.names }
     {
         self.peers[peer].front.lock(rt).fail(fault.has_broken());
     }
 
-    // Goes round until the first so many notes are settled. One round is enough, unless more pended than the tape may
-    // have pending beside what others note meanwhile.
+    // Goes in rounds until the first `count` notes are settled. One round is enough, unless more pended than the tape
+    // may have pending beside what others note meanwhile.
     fn go_round<P: Pace, R: Wait>(
         &self,
         rt: &R,
@@ -65,7 +67,7 @@ impl<D: Disk, N: Naming> Post<D, N> {
         unreachable!()
     }
 
-    // Takes to a peer's tape what its front has noted, until the first so many notes were sent, or no more may pend at
+    // Brings to a peer's tape what its front has noted, until the first `count` notes were sent, or no more may pend at
     // the tape.
     fn fill<R: Wait>(&self, rt: &R, peer: usize, count: u64) -> Result<(), PostFault>
         requires { peer < length self.now.names }
@@ -81,7 +83,7 @@ impl<D: Disk, N: Naming> Post<D, N> {
         unreachable!()
     }
 
-    // Sends what a peer's front has not sent, and tells whether its first so many notes are sent.
+    // Sends what a peer's front has not sent, and returns whether its first `count` notes are sent.
     fn push<R: Wait>(&self, rt: &R, peer: usize, count: u64) -> Result<bool, PostFault>
         requires { peer < length self.now.names }
         ensures kinds { IfErr result
@@ -92,7 +94,7 @@ impl<D: Disk, N: Naming> Post<D, N> {
         Ok(desk.has_sent(count))
     }
 
-    // Takes to a peer's tape what was sent, and tells whether no more may pend there.
+    // Puts on a peer's tape what was sent, and returns whether no more may pend there.
     fn pull<R: Wait>(&self, rt: &R, peer: usize) -> Result<bool, PostFault>
         requires { peer < length self.now.names }
         ensures kinds { IfErr result (IsPartFault peer IsRoundFault) }

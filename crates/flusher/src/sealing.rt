@@ -40,7 +40,7 @@ pub(crate) struct Due {
 }
 
 impl Due {
-    // So many notes, as their tape counts them.
+    // How many notes, as their tape counts them.
     pub(crate) fn count(&self) -> u64
         ensures { result ≡ self.now.count }
     {
@@ -48,7 +48,7 @@ impl Due {
     }
 }
 
-// So many notes are settled at a place, as their tape counts them. Only a front that has settled them makes one.
+// This many notes are settled at a place, as their tape counts them. Only a front that has settled them makes one.
 #[derive(Clone, Copy)]
 pub(crate) struct Settlement {
     place: usize,
@@ -56,7 +56,7 @@ pub(crate) struct Settlement {
 }
 
 impl Settlement {
-    // That of a front that is locked.
+    // Made by a front that is locked.
     pub(crate) fn of<N: Naming>(desk: &FrontDesk<N>, count: u64) -> Settlement
         requires { HasSettled count (front_of desk.now.seat.sender) }
         ensures { (result.place ≡ desk.now.seat.place) × (result.count ≡ count) }
@@ -116,7 +116,7 @@ impl Sealing {
         self.flushed = due.place + 1;
     }
 
-    // The receipt, once all is settled at each place, and the number is on the intake tape's disks.
+    // Makes the receipt, once all is settled at each place, and the number is on the intake tape's disks.
     pub(crate) fn receipt<D: Disk, N: Naming>(
         self,
         post: &Post<D, N>,

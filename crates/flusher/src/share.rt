@@ -1,11 +1,16 @@
 // What the workers hold of the counting ledgers.
+//
+// A counting ledger is a book with a total, cut into a fixed number of parts. A `Share` is an unforgeable token that
+// holds some of the parts and an amount; whoever adds to the total adds to a share's amount, and the amounts of all
+// parts together are the total. `parts ≡ 1` says that a share is exactly one part: once as many such shares as the
+// ledger has parts have come back, nobody else can have counted, and their amounts are the whole total.
 use crate::Naming;
 use crate::naming::{AnsweredByFeeders, DroppedByFeeders, TakenByIntake};
 use std::marker::Model;
 use std::sync::ledger::Share;
 
-/// What the intake has counted, each station's mark as it knows it, in the order of the peers, and the number of the
-/// last line that every station has taken that it names.
+/// What the intake has counted, each station's mark as the intake knows it, in the order of the peers, and the number
+/// of the last line taken by every station it names.
 #[derive(Drop)]
 pub struct IntakeShare<N: Naming> {
     pub(crate) taken: Share<TakenByIntake<N>>,

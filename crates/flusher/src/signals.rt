@@ -12,7 +12,7 @@ const PERIOD: u64 = 1;
 /// One value serves one run, and all of its threads share it.
 #[derive(Drop)]
 pub struct Signals {
-    // Changes with each signal: who waits for one sleeps while this stays as it was seen.
+    // Changes with each signal: whoever waits for one sleeps as long as this stays as it was.
     changes: AtomicU64,
     // How many orders have come.
     orders: AtomicU64,
@@ -25,7 +25,7 @@ pub struct Signals {
     stopped: AtomicBool,
 }
 
-// The latest flush that went well.
+// The latest successful flush.
 #[derive(Drop)]
 struct Latest {
     // How many orders had come before it began.
@@ -51,15 +51,15 @@ impl Signals {
         }
     }
 
-    /// Orders a flush, and gives the order's number. All orders that come before a flush begins are one.
+    /// Orders a flush, and returns the order's number. One flush serves all orders that came before it began.
     pub fn order(&self) -> u64 {
         let before = self.orders.fetch_add(1, Ordering::SeqCst);
         self.tell();
         before.wrapping_add(1)
     }
 
-    /// Waits for the receipt of a flush that began after the order of this number. None if all were stopped before it
-    /// came, or a tape was lost: by a fault, which the worker that met it has.
+    /// Waits for the receipt of a flush that began after the order of this number. `None` if everyone was stopped
+    /// first, or a tape was lost; the worker that met the fault has it.
     pub fn receipt<R: Wait>(&self, rt: &R, order: u64) -> Option<Receipt> {
         for _ in rt.forever() {
             let seen = self.changes.load(Ordering::SeqCst);
@@ -72,12 +72,12 @@ impl Signals {
         unreachable!()
     }
 
-    /// The receipt of the latest flush, if one came. It waits for no flush.
+    /// The receipt of the latest successful flush, if there was one. It waits for no flush.
     pub fn latest_receipt<R: Wait>(&self, rt: &R) -> Option<Receipt> {
         self.receipt_since(rt, 0)
     }
 
-    /// Tells that the funnel is at its end: what is ready or held is to be worked off.
+    /// The funnel is at its end: what is ready or held is to be worked off.
     pub fn begin_last_phase(&self) {
         self.last_phase.store(true, Ordering::SeqCst);
         self.tell();
@@ -88,7 +88,7 @@ impl Signals {
         self.last_phase.load(Ordering::SeqCst)
     }
 
-    /// Tells that the run is to end in good order: nothing more is claimed, and what is held gets its answers.
+    /// The run is to end in good order: nothing more is claimed, and what is held gets its answers.
     pub fn begin_draining(&self) {
         self.draining.store(true, Ordering::SeqCst);
         self.tell();
@@ -99,7 +99,7 @@ impl Signals {
         self.draining.load(Ordering::SeqCst)
     }
 
-    /// Tells that a tape failed: no line is to be taken, and no receipt comes any more. The last phase begins, in which
+    /// A tape failed: no further line is to be taken, and no receipt comes any more. The last phase begins, in which
     /// the other peers' debts are worked off.
     pub fn lose_tape(&self) {
         self.lost_tape.store(true, Ordering::SeqCst);
@@ -111,7 +111,7 @@ impl Signals {
         self.lost_tape.load(Ordering::SeqCst)
     }
 
-    /// Tells everyone to end at once: a worker met a fault, or a thread could not be started.
+    /// Everyone is to end at once: a worker met a fault, or a thread could not be started.
     pub fn stop(&self) {
         self.stopped.store(true, Ordering::SeqCst);
         self.tell();
@@ -122,7 +122,7 @@ impl Signals {
         self.stopped.load(Ordering::SeqCst)
     }
 
-    // The receipt of a flush that began after so many orders.
+    // The receipt of a flush that began after this many orders.
     fn receipt_since<R: Wait>(&self, rt: &R, orders: u64) -> Option<Receipt> {
         let latest = self.latest.lock(rt);
         if latest.orders >= orders {
@@ -132,8 +132,8 @@ impl Signals {
         }
     }
 
-    // Waits for an order beyond those that a flush has answered, for a second at most, and tells how many orders have
-    // come. None where the flusher is to end.
+    // Waits, for a second at most, for an order beyond those that a flush has served, and returns how many orders have
+    // come. `None` if the flusher is to end.
     pub(crate) fn next_flush<R: Wait>(&self, rt: &R, answered: u64) -> Option<u64> {
         let seen = self.changes.load(Ordering::SeqCst);
         if self.orders.load(Ordering::SeqCst) == answered && !self.is_over() {
@@ -147,7 +147,7 @@ impl Signals {
         }
     }
 
-    // Tells the receipt of a flush that began after so many orders.
+    // Signals the receipt of a flush that began after this many orders.
     pub(crate) fn answer<R: Wait>(&self, rt: &R, orders: u64, receipt: Receipt) {
         *self.latest.lock(rt) = Latest {
             orders,
@@ -156,7 +156,7 @@ impl Signals {
         self.tell();
     }
 
-    // Tells the flusher to end: no other worker is left.
+    // The flusher is to end: no other worker is left.
     pub(crate) fn end_flusher(&self) {
         self.over.store(true, Ordering::SeqCst);
         self.tell();
@@ -167,7 +167,7 @@ impl Signals {
         self.over.load(Ordering::SeqCst) || self.is_stopped()
     }
 
-    // Wakes all who wait. What is told was written before, so that none sleeps on.
+    // Wakes everyone who waits. What is signalled was written before, so nobody sleeps through it.
     fn tell(&self) {
         self.changes.fetch_add(1, Ordering::SeqCst);
         self.changes.wake_all();

@@ -21,12 +21,12 @@ use std::sync::atomic::Ordering;
 use std::sync::ledger::Share;
 
 impl<D: Disk, N: Naming> Post<D, N> {
-    /// Takes a funnel line at the front of each peer that it names, and answers its number, the one behind the last.
+    /// Takes a funnel line at the front of each peer that it names, and returns its number, the one after the last.
     ///
     /// # Errors
-    /// `CountFull` where the line's number would pass the greatest u64; `NoMemory`; then of each peer that a good line
-    /// names, in order: `CountFull` where the tally of what was taken has no room for 65,537 more; `Stranger`; the
-    /// station's. The peers before that one have taken the line: it is to be given again, under the same number.
+    /// `CountFull` if the line's number would pass the greatest u64; `NoMemory`; then, for each peer that a valid line
+    /// names, in order: `CountFull` if the tally of taken debts has no room for 65,537 more; `Stranger`; the station's.
+    /// The peers before the one that refused have taken the line: give it again, and it gets the same number.
     #[tactic(auto, using(crate::proofs::Rises::rises_same))]
     pub fn take_line<R: Wait>(
         &self,
@@ -87,7 +87,7 @@ impl<D: Disk, N: Naming> Post<D, N> {
         }
     }
 
-    // Takes a good line at each station whose peer it names, in order.
+    // Takes a valid line at each station whose peer it names, in order.
     fn take_good<R: Wait>(
         &self,
         rt: &R,
@@ -114,7 +114,7 @@ impl<D: Disk, N: Naming> Post<D, N> {
         Ok(())
     }
 
-    // Takes a good line at a station, if the line names its peer.
+    // Takes a valid line at a station, if the line names its peer.
     fn take_named<R: Wait>(
         &self,
         rt: &R,
@@ -147,7 +147,7 @@ impl<D: Disk, N: Naming> Post<D, N> {
         Ok(())
     }
 
-    // Takes a good line at a station.
+    // Takes a valid line at a station, and sends what is unsent there.
     fn take_at<R: Wait>(
         &self,
         rt: &R,
@@ -175,7 +175,7 @@ impl<D: Disk, N: Naming> Post<D, N> {
         took
     }
 
-    // Takes a good line at a front, and counts it in the tally.
+    // Takes a valid line at a front, and counts it in the tally.
     fn take_counted<R: Wait>(
         &self,
         rt: &R,
@@ -200,7 +200,7 @@ impl<D: Disk, N: Naming> Post<D, N> {
     }
 }
 
-// Takes a good line at a station, where its number is above the mark, and counts it in this tally.
+// Takes a valid line at a front, if its number is above the mark, and counts it in this tally.
 fn take_in<N: Naming>(
     peer: usize,
     desk: &mut FrontDesk<N>,

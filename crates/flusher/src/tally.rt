@@ -1,4 +1,4 @@
-// The books of the counting ledgers.
+// The books of the counting ledgers (what those are is said in share.rt).
 ghost use Rattle.std.specs.Prelude.{◌≡◌, ℕ, ◌+◌, ◌-◌, ◌^◌, ◌<◌, ◌≤◌, IsTrue, ◌↔◌};
 ghost use Rattle.std.specs.Prelude.{◌⊎◌};
 ghost use Rattle.flusher.specs.Counted.{Counts, answered_by, dropped_by};
@@ -18,7 +18,7 @@ use std::sync::ledger::{Blank, Book, Ledger, Share};
 // The most that one call counts: a station sheds no more than may pend.
 const MOST_AT_ONCE: u64 = MOST_PENDING as u64;
 
-/// The books of one count: what the workers were told, and beside it what the stations say.
+/// The books of one count: that of the workers, and that of the stations.
 #[derive(Drop)]
 pub struct Books<W: Ledger, S: AtStations> {
     count: u64,
@@ -45,7 +45,7 @@ impl<W: Ledger, S: AtStations> Books<W, S> {
         self.count >= u64::MAX - MOST_AT_ONCE
     }
 
-    /// Counts these, told to a worker, at a station.
+    /// Counts this many more, in a worker's share and in a station's.
     pub fn count(&mut self, worker: &mut Share<W>, station: &mut Share<S>, more: u64)
         requires parts { (0 < worker.old.parts) × (0 < station.old.parts) }
         requires room { self.old + more < 2 ^ 64 }
@@ -84,7 +84,7 @@ impl<N: Naming> Tally<N> {
         !self.answered.is_full() && !self.dropped.is_full()
     }
 
-    /// Counts what became of a debt, told to a feeder, at its station.
+    /// Counts what became of a debt, in a feeder's share and in its station's.
     pub fn count(
         &mut self,
         feeder: &mut FeederShare<N>,
@@ -108,7 +108,7 @@ impl<N: Naming> Tally<N> {
     }
 }
 
-/// A ledger beside the stations that is being cut.
+/// A counting ledger of the stations, while parts are cut off it.
 #[derive(Drop)]
 pub struct Opening<S: AtStations> {
     book: Book<S>,
@@ -140,7 +140,7 @@ impl<S: AtStations> Opening<S> {
         share
     }
 
-    /// The books, once every part is cut off.
+    /// Makes the books, once every part is cut off.
     pub fn close<W: Ledger>(self, workers: Book<W>) -> Books<W, S>
         requires cut { (self.rest.parts ≡ 0) × (self.rest.amount ≡ 0) }
         requires total { self.book.total ≡ S.opened }

@@ -21,7 +21,7 @@ pub struct TapeDesk<D: Disk, N: Naming> {
     ghost tied: { IsTableAt N.names.tables place (taking side).table_id },
 }
 
-/// What a flush has put on a tape: what the tape answered, and what it counts. Only a flush that went well makes one.
+/// What a flush has put on a tape: the tape's answer, and what it counts. Only a successful flush makes one.
 #[derive(Clone, Copy)]
 pub(crate) struct Flush {
     flushed: Flushed,
@@ -59,7 +59,7 @@ impl<D: Disk, N: Naming> TapeDesk<D, N> {
     ghost use Rattle.recovery.specs.Words.{IsDebtFault, IsDue, IsFlushFault, IsFull, IsRotateFault, RotatesTooLong};
     ghost use Rattle.recovery.specs.Words.{generation_of, ledger_of};
 
-    /// Puts on the tape what was sent, as [`Side::pull`] does. It calls no disk.
+    /// Puts on the tape what was sent ([`Side::pull`]). It calls no disk.
     pub fn pull<R: Wait>(&mut self, rt: &R, queue: &NoteQueue) -> Result<(), TapeFault>
         requires { IsAt queue.now (taking self.old.side) }
         ensures takes { TakesMore (taking self.old.side) (taking self.new.side) }
@@ -70,8 +70,8 @@ impl<D: Disk, N: Naming> TapeDesk<D, N> {
         side.pull(rt, queue)
     }
 
-    /// Puts the notes that pend on the disks. If there is no room for them behind what lies there, as behind the notes
-    /// of debts that have long ended, the tape is written anew, with what pends.
+    /// Puts the notes that pend on the disks. If there is no room for them after what is there, much of which may be
+    /// notes of debts that have long ended, the tape is rewritten, the notes that pend included.
     pub fn flush(&mut self) -> Result<Flush, TapeFault>
         ensures told { IfOk result (TellsOf (tape_of self.new.side)) }
         ensures full { IsErrOf result TapeFault.TapeFull
@@ -85,7 +85,7 @@ impl<D: Disk, N: Naming> TapeDesk<D, N> {
         }
     }
 
-    // Flushes the tape, where there is room for what pends.
+    // Flushes the tape, if there is room for what pends.
     fn flush_once(&mut self) -> Result<Flush, TapeFault>
         ensures told { IfOk result (TellsOf (tape_of self.new.side)) }
         ensures full { IsErrOf result TapeFault.TapeFull → IsFull (tape_of self.old.side)
@@ -101,7 +101,7 @@ impl<D: Disk, N: Naming> TapeDesk<D, N> {
         })
     }
 
-    // Writes the tape anew, in place of a flush for which there is no room. The faults are those of a flush.
+    // Rewrites the tape, instead of a flush for which there is no room. The faults are those of a flush.
     fn rotate_full(&mut self) -> Result<Flush, TapeFault>
         ensures told { IfOk result (TellsOf (tape_of self.new.side)) }
         ensures full { IsErrOf result TapeFault.TapeFull
@@ -123,8 +123,8 @@ impl<D: Disk, N: Naming> TapeDesk<D, N> {
         self.side.rotate_due()
     }
 
-    /// Writes the tape anew, the notes that pend among what is written. A flush behind it, which calls no disk, tells
-    /// what is on the tape.
+    /// Rewrites the tape, the notes that pend included. A flush follows, which calls no disk, and returns what is on
+    /// the tape.
     pub fn rotate(&mut self) -> Result<Flush, TapeFault>
         ensures told { IfOk result (TellsOf (tape_of self.new.side)) }
         ensures generation_full { IsErrOf result TapeFault.GenerationFull
@@ -135,7 +135,7 @@ impl<D: Disk, N: Naming> TapeDesk<D, N> {
     {
         let TapeDesk { side, .. } = self;
         side.rotate()?;
-        // Nothing pends now, so that only a broken tape would refuse this.
+        // Nothing pends now, so only a broken tape would refuse this.
         match self.flush_once() {
             Ok(flush) => Ok(flush),
             Err(_) => Err(TapeFault::Broken),

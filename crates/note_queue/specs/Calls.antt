@@ -19,13 +19,13 @@ pub record TakesMore (old new : Pass Note PassLog) : Type 0 where
   pub got : (view new).got ≡ (view old).got ++ more
 
 module _ {D : Type 0} {g : Ghosts D} where
-  -- no call of a disk was made, and the tape works if it did, at its place
+  -- no disk was called; the tape still works if it did, and keeps its place
   pub record IsNotCalled (old new : Tape D g) : Type 0 where
     pub disks : disks_of new ≡ disks_of old
     pub place : place_of new ≡ place_of old
     pub works : IsBroken old ↔ IsBroken new
 
-  -- the tape refuses this note for this fault
+  -- the tape refuses this note with this fault
   abbrev pub IsRefusedFor : Tape D g → Note → TapeFault → Type 0
   IsRefusedFor tape note Broken = IsBroken tape
   IsRefusedFor tape note (RefusedNote fault) = (IsBroken tape → ⊥) × RefusesNote (ledger_of tape) note fault

@@ -8,7 +8,7 @@ use Rattle.note_queue.specs.Calls.{IsRefusedFor}
 use Rattle.note_queue.specs.declared.side.Side.{Side}
 
 module _ {D : Type 0} {g : Ghosts D} where
-  -- a note is kept, which the tape refuses for this fault
+  -- a note is kept, which the tape refuses with this fault
   abbrev pub KeepsFor : Side D g → TapeFault → Type 0
   KeepsFor side fault = (note : Note) × (side.kept ≡ Some note) × IsRefusedFor side.tape note fault
 

@@ -8,7 +8,7 @@ use Rattle.recovery.specs.Words.{ledger_of}
 use Rattle.note_queue.specs.Owns.{kept_list}
 use Rattle.note_queue.specs.declared.joined.Joined.{Joined}
 
--- the tape's ledger, then the kept note, the queue's notes and those that were not sent, has the front's shape
+-- the tape's ledger, followed by the kept note, the queue's notes and the unsent ones, has the front's shape
 abbrev pub Folds : {D : Type 0} {g : Ghosts D} → Joined D g → Type 0
 Folds joined =
     front_shape joined.front

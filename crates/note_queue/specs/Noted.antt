@@ -7,11 +7,11 @@ use Rattle.peer_queue.specs.Front.{unsettled_of}
 use Rattle.peer_queue.specs.declared.front.Front.{Front}
 use Rattle.note_queue.specs.declared.rule.PassLog.{PassLog}
 
--- the ledger at the split, followed by what was sent and by what was not, has the front's shape
+-- the ledger at the split, followed by what was sent and what was not, has the front's shape
 abbrev pub IsNoted : PassLog → Front → Type 0
 IsNoted log front = front_shape front ≡ shape_of (after log.sent_on (log.sent ++ unsent_of front))
 
--- of the front only how much was sent changed
+-- of the front, only how many notes were sent has changed
 pub record IsOnlySent (old new : Front) : Type 0 where
   pub shape : front_shape new ≡ front_shape old
   pub notes : notes_of new ≡ notes_of old

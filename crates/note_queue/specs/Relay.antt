@@ -1,6 +1,6 @@
--- What passes through the queue (profile): what was sent is what was received, and then what the queue holds. One pass
--- at most may push, and it has the list of what was sent; the same of pops. Both know the ledger onto which the notes
--- go.
+-- What passes through the queue (profile): what was sent is what was received, followed by what the queue holds. At
+-- most one pass may push, and it has the list of what was sent; at most one may pop, and it has the list of what was
+-- received. Both know the ledger onto which the notes go.
 use Rattle.std.specs.Prelude.{◌≡◌, ℕ, Bool, true, false, List, [], ◌∷◌, ◌++◌, Option}
 use mathlib.Core.Option.{some}
 use lib.ListN.{get_elem?}
@@ -52,13 +52,13 @@ with_sent log note = record log { sent = log.sent ++ note ∷ [] }
 abbrev pub with_got : PassLog → Note → PassLog
 with_got log note = record log { got = log.got ++ note ∷ [] }
 
--- under this rule a pass that may push puts its note behind all others, and has sent it then
+-- under this rule a pass that may push puts its note after all others, and has then sent it
 abbrev pub AllowsPushes : (List Note → List PassLog → Type 0) → Type 0
 AllowsPushes holds =
     (room port : ℕ) (log : PassLog) (note : Note) → log.pushes ≡ true
     → Pushes holds room port log note (λ later. later ≡ with_sent log note)
 
--- under this rule a pass that may pop takes the oldest note, and has received it then
+-- under this rule a pass that may pop takes the oldest note, and has then received it
 abbrev pub AllowsPops : (List Note → List PassLog → Type 0) → Type 0
 AllowsPops holds =
     (port : ℕ) (log : PassLog) → log.pops ≡ true → Pops holds port log (λ note later. later ≡ with_got log note)
@@ -67,7 +67,7 @@ AllowsPops holds =
 abbrev pub HoldsWith : (List Note → List PassLog → Type 0) → PassLog → List Note → Type 0
 HoldsWith holds log items = (logs : List PassLog) × (port : ℕ) × holds items logs × (get_elem? logs port ≡ some log)
 
--- at one moment the queue held so many notes, and one of its passes knew this
+-- at one moment the queue held this many notes, and one of its passes knew this
 abbrev pub WasSeen : (List Note → List PassLog → Type 0) → ℕ → PassLog → Type 0
 WasSeen holds count log = Held count (HoldsWith holds log)
 

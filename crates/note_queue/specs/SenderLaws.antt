@@ -1,4 +1,4 @@
--- Laws of senders, for this crate and those above: whatever a call makes of a front, the sender's fact holds again.
+-- Laws of senders, for this crate and those above: whatever a call does to a front, what the sender keeps holds again.
 use Rattle.std.proofs.Common.{◌≡◌, ℕ, Bool, true, false, true≢false, List, [], ◌∷◌, ◌++◌, refl, sym, ap, ◌∙◌, subst}
 use Rattle.std.proofs.Common.{append_assoc}
 use Rattle.std.specs.Prelude.{Result, Ok, Err, IfOk, IsTrue, OnErr, OnOk}
@@ -67,7 +67,7 @@ noted-finished log old new connection key (Dropped cause) does = noted-notes log
 noted-finished log old new connection key (Later moment) does = noted-places log old new does.keeps
 noted-finished log old new connection key Ready does = noted-places log old new does.keeps
 
--- ---- by what a call answers
+-- ---- by a call's result
 
 -- a debt that a connection held: it ended or has another place, or the call was refused
 pub noted-done : {A E : Type 0} (log : PassLog) (old new : Front) (result : Result A E) (connection key : ℕ)
@@ -96,7 +96,7 @@ pub noted-shed : (log : PassLog) (old new : Front) (result : Result Shed Station
 noted-shed log old new (Ok shed) ok err = noted-notes log old new (dropped shed.keys.items) ok.notes
 noted-shed log old new (Err e) ok err = noted-unchanged log old new err
 
--- what a flush answered was of this front's tape, or nothing changed
+-- a flush's answer was of this front's tape, or nothing changed
 pub noted-told : (log : PassLog) (old new : Front) (answer : Bool) (more : ℕ)
     → (IsTrue answer → OnlyOutbox (Learns more) old new) → ((IsTrue answer → ⊥) → new ≡ old)
     → IsNoted log old → IsNoted log new

@@ -5,7 +5,7 @@ use Rattle.ledger_core.specs.declared.note.Note.{Note}
 use Rattle.peer_queue.specs.Front.{unsent_of}
 use Rattle.note_queue.specs.declared.sender.Sender.{Sender}
 
--- the first of what was unsent was sent, in order, or nothing
+-- a prefix of what was unsent was sent, in order; it may be empty
 pub record SendsMore (old new : Sender) : Type 0 where
   pub queue : IsSamePass old.pass new.pass
   pub base : (view new.pass).sent_on ≡ (view old.pass).sent_on

@@ -1,4 +1,4 @@
--- What the two ends of a queue hold, in words of their own.
+-- What the two ends of a queue hold.
 use Rattle.std.specs.Prelude.{Option}
 use Rattle.crossbeam_queue.specs.Passes.{Pass}
 use Rattle.disk_model.specs.declared.Disk.{Ghosts}

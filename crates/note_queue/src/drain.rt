@@ -7,8 +7,8 @@ use crate::rule::{NotePass, NoteQueue, SeesBoth};
 use ledger_core::Note;
 use std::sync::Wait;
 
-// Takes out the notes that the queue holds, into a Vec with room for all that it may hold: what was sent is what was
-// received before, and then these.
+// Takes out the notes that the queue holds, into a Vec with room for all that it may hold. What was sent is what was
+// received before, followed by these.
 pub(crate) fn drained<R: Wait>(
     rt: &R,
     queue: &NoteQueue,

@@ -30,7 +30,8 @@ pub struct Joined<D: Disk> {
 }
 
 /// Joins the two ends of a queue, once nobody else uses it. What the queue holds is taken out, into a Vec that has room
-/// for it. The tape's ledger, with the kept note, the queue's notes and those that were not sent, is the front's.
+/// for it. The tape's ledger, followed by the kept note, the queue's notes and those that were not sent, has the shape
+/// of the front's.
 pub fn join<D: Disk, R: Wait>(
     rt: &R,
     queue: &NoteQueue,
@@ -42,7 +43,7 @@ pub fn join<D: Disk, R: Wait>(
     requires gets { IsAt queue.now (taking side) }
     requires empty { room.items ≡ [] }
     requires room { ruled_capacity queue.now ≤ vec_capacity room }
-    // What was sent is what was received, and then what the queue held, in order and once.
+    // What was sent is what was received, followed by what the queue held, in order and once.
     ensures order { ((view (sending sender)).sent_on ≡ (view (taking side)).got_on)
         × ((view (sending sender)).sent ≡ (view (taking side)).got ++ result.queued.items) }
     ensures folds { Folds result }

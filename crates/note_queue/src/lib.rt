@@ -1,10 +1,10 @@
 //! A peer's notes on their way from its front to its tape, which another thread syncs: by one queue, in order and once.
 //!
 //! May touch the disks of the tape, and wait for the queue. The crates above use `Sender`, a front and the pass that
-//! sends: what was sent and what was not leave the front's shape (`specs/Noted.antt`); and `Side`, a tape and the pass
-//! that receives: what was received, less the kept note, leaves the tape's ledger (`specs/Owns.antt`). By the rule of
-//! the queue (`specs/Relay.antt`) what was sent is what was received, and then what the queue holds; so at `join` the
-//! tape's ledger, with the notes that are left, has the front's shape (`specs/Folds.antt`).
+//! sends: the notes sent and unsent make up the front's shape (`specs/Noted.antt`); and `Side`, a tape and the pass
+//! that receives: what was received, less the kept note, makes up the tape's ledger (`specs/Owns.antt`). By the rule of
+//! the queue (`specs/Relay.antt`) what was sent is what was received, followed by what the queue holds; so at `join`
+//! the tape's ledger, followed by the notes that are left, has the front's shape (`specs/Folds.antt`).
 #![tactic(auto)]
 
 mod drain;

@@ -1,4 +1,4 @@
-// What is left of a side once its pass and the one that sends are one again.
+// What is left of a side once its pass and the sender's are one again.
 ghost use Rattle.std.specs.Prelude.{◌≡◌, ◌≤◌, ◌++◌, [], true};
 ghost use Rattle.std.specs.Vec.{vec_capacity};
 ghost use Rattle.crossbeam_queue.specs.Passes.{view, IsPassOf, ruled_capacity};
@@ -29,7 +29,7 @@ pub struct Left<D: Disk> {
 impl<D: Disk> Side<D> {
     /// Joins the pass that sends to this side's, once nobody else uses the queue. What the queue holds is taken out,
     /// into a Vec that has room for it: it is what was sent and not received, in order and once. The tape's ledger,
-    /// with the kept note and then the queue's, is that of the split with all that was sent.
+    /// followed by the kept note and the queue's, is that of the split followed by all that was sent.
     pub fn join<R: Wait>(
         self,
         rt: &R,
@@ -52,7 +52,7 @@ impl<D: Disk> Side<D> {
         Left { tape, kept, queued }
     }
 
-    // One pass that may push and pop, and the tape and the kept note without theirs.
+    // One pass that may push and pop, made of both, and this side's tape and kept note.
     fn rejoined(self, queue: &NoteQueue, sends: NotePass) -> (NotePass, Tape<D>, Option<Note>)
         requires sends { IsPassOf queue.now sends × ((view sends).pushes ≡ true) }
         requires gets { IsAt queue.now self.pass }

@@ -27,8 +27,8 @@ impl Model for SplitLedger {
     ghost view = { λ split. state_of split.ledger };
 }
 
-/// What a pass may do, and what it has done: the notes that it pushed, with the ledger onto which they are to go, and
-/// the same of those that it popped. No value of it is made.
+/// What a pass may do, and what it has done: the notes that it pushed and the ledger onto which they are to go, and the
+/// same for those that it popped. No value of it is made.
 pub struct PassLog {
     pub pushes: bool,
     pub pops: bool,
@@ -51,7 +51,7 @@ impl AtSplit for Brand {
     ghost ledger = { start };
 }
 
-/// A rule under which a pass that may push puts its note behind all others, and one that may pop takes the oldest.
+/// A rule under which a pass that may push puts its note after all others, and one that may pop takes the oldest.
 pub trait Relays: Protocol<Note, PassLog> {
     ghost use Rattle.note_queue.specs.Relay.{AllowsPops, AllowsPushes};
 
@@ -79,7 +79,7 @@ impl Relays for InOrder {
     ghost allows_pops = { pops-relayed };
 }
 
-/// One pass becomes the front's and the side's, both over the ledger at the split.
+/// One pass becomes two: the front's and the side's, both over the ledger at the split.
 pub struct Cut<B: AtSplit>(PhantomData<B>);
 
 impl<B: AtSplit> Split<PassLog> for Cut<B> {
@@ -102,7 +102,7 @@ impl Join<PassLog> for Whole {
     ghost spent = { idle };
 }
 
-/// A note was sent, or what the rule says of a queue that was full.
+/// After a push a note was sent; after a refused one, what the rule says of a queue that was full.
 pub struct Sends<P: Protocol<Note, PassLog>>(PhantomData<P>);
 
 impl<P: Protocol<Note, PassLog>> Outcome<Note, PassLog> for Sends<P> {
@@ -117,7 +117,7 @@ impl<P: Protocol<Note, PassLog>> Lesson<Note, PassLog> for Sends<P> {
     ghost fact = { λ log items. HoldsWith P.holds log items };
 }
 
-/// A note was received, or what the rule says of a queue in which there was none.
+/// After a pop a note was received; after an empty one, what the rule says of a queue that holds none.
 pub struct Gets<P: Protocol<Note, PassLog>>(PhantomData<P>);
 
 impl<P: Protocol<Note, PassLog>> Outcome<Note, PassLog> for Gets<P> {
@@ -132,8 +132,8 @@ impl<P: Protocol<Note, PassLog>> Lesson<Note, PassLog> for Gets<P> {
     ghost fact = { λ log items. HoldsWith P.holds log items };
 }
 
-/// What the pass that may do both knows: the two ledgers are one, and what was sent is what was received, followed by
-/// what the queue holds.
+/// What a pass that may push and pop knows: the two ledgers are one, and what was sent is what was received, followed
+/// by what the queue holds.
 pub struct SeesBoth;
 
 impl Outcome<Note, PassLog> for SeesBoth {
@@ -168,7 +168,7 @@ pub fn queue(alloc: Global) -> Result<(NoteQueue, NotePass), AllocError>
     NoteQueue::ruled(alloc, QUEUE_ROOM)
 }
 
-/// The pass becomes that of the front of this tape, and another that of its side.
+/// The pass becomes that of this tape's front; the one returned is that of its side.
 pub fn split_pass<D: Disk>(queue: &NoteQueue, pass: &mut NotePass, tape: &Tape<D>) -> NotePass
     requires queue { IsPassOf queue.now pass.old }
     requires roles { ((view pass.old).pushes ≡ true) × ((view pass.old).pops ≡ true) }
@@ -179,7 +179,7 @@ pub fn split_pass<D: Disk>(queue: &NoteQueue, pass: &mut NotePass, tape: &Tape<D
     split_pass_at::<Brand, D>(queue, pass, tape)
 }
 
-// The same over a ledger that the caller picks, which is the tape's.
+// The same, over a ledger that the caller names: the tape's.
 fn split_pass_at<B: AtSplit, D: Disk>(
     queue: &NoteQueue,
     pass: &mut NotePass,

@@ -17,9 +17,9 @@ use std::alloc::AllocError;
 use std::sync::Wait;
 
 /// A front, and the pass of the queue by which its notes go to the side that has its tape. The ledger at the split,
-/// followed by what was sent and by what was not, has the front's shape.
+/// followed by what was sent and what was not, has the front's shape.
 ///
-/// Its calls are the front's of the same name. Those that may note leave the note unsent: whoever holds the lock calls
+/// Its calls are the front's of the same name. A note that one of them makes stays unsent: whoever holds the lock calls
 /// `send` before giving it back.
 #[derive(Drop)]
 pub struct Sender {
@@ -56,7 +56,7 @@ impl Sender {
     /// Sends what is unsent, oldest first, until all is sent or the queue is full: what was not sent stays unsent.
     ///
     /// # Errors
-    /// `NoMemory` if the copy of a note was refused memory: that note, and all behind it, stay unsent.
+    /// `NoMemory` if the copy of a note was refused memory: that note, and all after it, stay unsent.
     pub fn send<P: Relays, R: Wait>(
         &mut self,
         rt: &R,
@@ -78,7 +78,7 @@ impl Sender {
         unreachable!()
     }
 
-    // Sends the first note that is unsent, or answers that there is none, or that the queue is full.
+    // Sends the first unsent note; false if there is none, or if the queue is full.
     fn send_one<P: Relays, R: Wait>(
         &mut self,
         rt: &R,
@@ -102,7 +102,7 @@ impl Sender {
         Ok(true)
     }
 
-    /// How many notes the tape counts once all that was sent is on it, or the greatest u64 where that is less.
+    /// How many notes the tape counts once all that was sent is on it, at most the greatest u64.
     pub fn sent(&self) -> u64
         ensures { result
             ≡ min (settled_of (front_of self.now) + sent_of (front_of self.now)) (2 ^ 64 - 1) }
@@ -171,7 +171,7 @@ impl Sender {
         self.front.unclaim(connection, key)
     }
 
-    /// Has a debt wait until this moment, or makes it ready if that is 0. Takes no memory.
+    /// Makes a debt wait until this moment, or makes it ready if that is 0. Takes no memory.
     ///
     /// # Errors
     /// The debt is handed back. The front's: `Broken`; `NotHeld`.
@@ -195,11 +195,11 @@ impl Sender {
         self.front.put_off(connection, debt, until)
     }
 
-    /// Takes what a connection tells of a debt that it held: a final answer settles it, a deferral has it wait or drops
-    /// it, where the article can't be sent it is dropped, and where it came back it is ready.
+    /// Takes a connection's outcome of a debt that it held: a final answer settles it, a deferral makes it wait or
+    /// drops it, a debt whose article can't be sent is dropped, and one that came back is ready.
     ///
     /// # Errors
-    /// The outcome is handed back. The front's: `Broken`; `NotHeld`; where the debt ends `Tape(PendingFull)`,
+    /// The outcome is handed back. The front's: `Broken`; `NotHeld`; if the debt ends `Tape(PendingFull)`,
     /// `NoMemory`.
     pub fn finish(
         &mut self,
@@ -224,7 +224,8 @@ impl Sender {
         self.front.finish(connection, outcome, now)
     }
 
-    /// Makes all that this connection held ready, and counts it. Takes no memory. A broken front answers too.
+    /// Makes all debts ready that this connection held, and returns how many. Takes no memory. A broken front
+    /// answers too.
     pub fn release(&mut self, connection: CxnId) -> u64
         ensures count { result ≡ held_count connection.0 (places_of (front_of self.old)) }
         ensures places { places_of (front_of self.new)
@@ -235,8 +236,8 @@ impl Sender {
         self.front.release(connection)
     }
 
-    /// Drops, oldest first, what exceeds the backlog's limit, as far as there is room among the notes that pend. All of
-    /// it is dropped, or on a refusal nothing.
+    /// Drops, oldest first, what exceeds the backlog's limit, as far as there is room among the notes that pend. On a
+    /// refusal nothing is dropped.
     ///
     /// # Errors
     /// The front's: `Broken`; `NoMemory`.
@@ -251,8 +252,8 @@ impl Sender {
         self.front.shed()
     }
 
-    /// Whether what a flush answered is of this front's tape, and of notes that were sent: these are settled from now
-    /// on.
+    /// Settles the notes that a flush has put on the disks, if its answer is of this front's tape and covers only notes
+    /// that were sent; returns whether it is.
     pub fn settled(&mut self, flushed: &Flushed) -> bool
         ensures answer { IsTrue result ↔ IsAnswered flushed.now (front_of self.old) }
         ensures learns { IsTrue result → OnlyOutbox

@@ -1,4 +1,4 @@
-// What owns a tape: it takes the notes of its queue, and puts them on the tape.
+// The owner of a tape: it takes the notes of its queue, and puts them on the tape.
 ghost use Rattle.std.specs.Prelude.{◌≡◌, ◌↔◌, ◌+◌, ◌++◌, ◌∷◌, [], List, None, Some, true};
 ghost use Rattle.std.specs.Prelude.{IfErr, IfOk, IsErrOf, IsOk, IsTrue, OnErr, OnOk};
 ghost use Rattle.crossbeam_queue.specs.Passes.{view};
@@ -41,7 +41,7 @@ impl<D: Disk> Side<D> {
     ghost use Rattle.recovery.specs.Words.{Continues, IsDebtFault, OneHasRisen, faults_of};
     ghost use Rattle.note_queue.specs.Ends.{IsSameEnd, KeepsFor};
 
-    // The side of a tape on which nothing pends, by a pass that has taken nothing yet.
+    // The side of a tape on which nothing pends, with a pass that has taken nothing yet.
     pub(crate) fn new(tape: Tape<D>, pass: NotePass) -> Self
         requires pass { (view pass ≡ may_pop (ledger_of tape) []) × (pass.me.1 ≡ []) }
         requires works { IsBroken tape → ⊥ }
@@ -56,8 +56,8 @@ impl<D: Disk> Side<D> {
         }
     }
 
-    /// Puts the kept note on the tape, and then what the queue holds, oldest first, until a look finds it empty or the
-    /// tape refuses a note, which is kept. It calls no disk.
+    /// Puts the kept note on the tape, and then what the queue holds, oldest first, until the queue is found empty, or
+    /// the tape refuses a note, which is kept. It calls no disk.
     ///
     /// # Errors
     /// Why the tape refuses the note that is kept now: `Broken`; `Note`; `PendingFull` with 65,536 notes pending;
@@ -99,7 +99,7 @@ impl<D: Disk> Side<D> {
         }
     }
 
-    // Puts the oldest note of the queue on the tape, or answers that there was none.
+    // Puts the oldest note of the queue on the tape; false if there was none.
     fn take_one<P: Relays, R: Wait>(
         &mut self,
         rt: &R,
@@ -124,7 +124,7 @@ impl<D: Disk> Side<D> {
     }
 
     /// Puts the notes that pend on the disks: from `Ok` on all that the tape took is acknowledged, and the answer
-    /// counts it. A kept note stays kept. The tape's call of this name, with its disk calls.
+    /// counts it. A kept note stays kept. This is the tape's call of the same name, with its disk calls.
     ///
     /// # Errors
     /// The tape's, in its order: `Broken`; `TapeFull`; `NoMemory`; `Disk`, which breaks the tape.
@@ -152,8 +152,8 @@ impl<D: Disk> Side<D> {
         self.tape.rotate_due()
     }
 
-    /// Writes the tape anew, the notes that pend in it. From `Ok` on all that the tape took is acknowledged. Answers
-    /// the new generation. The tape's call of this name, with its disk calls.
+    /// Rewrites the tape, the notes that pend included. From `Ok` on all that the tape took is acknowledged. Returns
+    /// the new generation. This is the tape's call of the same name, with its disk calls.
     ///
     /// # Errors
     /// The tape's, in its order: `Broken`; `GenerationFull`; `TapeFull`; `NoMemory`; `Disk`, which breaks the tape.
@@ -195,7 +195,7 @@ impl<D: Disk> Side<D> {
         self.tape.debt(key)
     }
 
-    /// What the tape counts, the notes that pend in it. A broken tape answers too.
+    /// What the tape counts, the notes that pend included. A broken tape answers too.
     pub fn totals(&self) -> Totals
         ensures counts { result ≡ totals_of (ledger_of self.now.tape) }
         ensures sum { result.taken ≡ result.owed + result.answered + result.dropped }
@@ -204,7 +204,7 @@ impl<D: Disk> Side<D> {
     }
 }
 
-// Puts a note on the tape, or keeps it beside.
+// Puts a note on the tape, or keeps it beside the tape.
 fn put<D: Disk>(tape: &mut Tape<D>, kept: &mut Option<Note>, note: Note) -> Result<(), TapeFault>
     requires none { kept.old ≡ None }
     ensures last { (notes : List Note) → notes ++ note ∷ []

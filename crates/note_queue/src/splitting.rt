@@ -13,9 +13,9 @@ use disk_model::Disk;
 use peer_queue::Station;
 use std::alloc::AllocError;
 
-/// Splits a station of which no note pends: its front, with the pass that sends, and its tape, with the pass that
-/// receives, at this place among those of other peers. The passes are made of this one, the only pass of the queue, to
-/// which nothing was sent yet. Linear in what is owed.
+/// Splits a station, of which no note pends, into its front with the pass that sends, and its tape with the pass that
+/// receives, at this place among those of other peers. Both passes are made of this one, the only pass of the queue,
+/// to which nothing was sent yet. Linear in what is owed.
 ///
 /// # Errors
 /// `NoMemory`: the station is handed back as it was.

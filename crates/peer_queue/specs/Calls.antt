@@ -26,7 +26,7 @@ use Rattle.peer_queue.specs.declared.limits.Shed.{Shed}
 use Rattle.peer_queue.specs.declared.station.Station.{Station}
 
 module _ {D : Type 0} {g : Ghosts D} where
-  -- a station as it is opened: all that it owes is ready, it works, nothing pends, and it has the limits that were given
+  -- a station just opened: all that it owes is ready, it works, nothing pends, and it has the given limits
   pub record IsFresh (given : Limits) (station : Station D g) : Type 0 where
     pub ready : places_of station ≡ all_ready (keys (ledger_of station))
     pub works : IsBroken station → ⊥
@@ -62,12 +62,12 @@ module _ {D : Type 0} {g : Ghosts D} where
     pub works : OnOk result (IsBroken new → ⊥)
     pub kinds : IfErr result IsRotateFault
 
-  -- when it is refused to owe the line of this number, of a source that was noted up to this mark, by this note
+  -- when owing the line of this number by this note is refused; its source was noted up to this mark
   abbrev pub RefusesOwe : {T : Type 0} → ℕ → ℕ → Note → Station D g → Station D g → Result T StationFault → Type 0
   RefusesOwe mark number note old new result =
       RefusesLine (IsBroken old) (Overflows (ledger_of old) note) (IsSame old new) mark number (pending_of old) result
 
-  -- when it is refused to close the source that is open
+  -- when closing the open source is refused
   abbrev pub RefusesClose : Station D g → Station D g → Result ℕ StationFault → Type 0
   RefusesClose old new result =
       RefusesEnd (IsBroken old) (Overflows (ledger_of old) (closing old)) (IsLegal (ledger_of old) (closing old))
@@ -76,19 +76,19 @@ module _ {D : Type 0} {g : Ghosts D} where
   -- When a claim at this moment is refused; each debt keeps its place.
   pub record RefusesClaim {T : Type 0} (now : ℕ) (old new : Station D g) (result : Result T StationFault) : Type 0 where
     pub broken : IsErrOf result Broken ↔ IsBroken old
-    -- but for Broken there was a debt to claim
+    -- except for Broken, there was a debt to claim
     pub refused : IfErr result (λ e. e ≢ Broken → IsSome (least_candidate now (places_of old)))
     pub kinds : IfErr result IsClaimFault
     pub places : OnErr result (places_of new ≡ places_of old)
 
-  -- When a debt of this number is not read.
+  -- When reading the debt of this number is refused.
   pub record RefusesDebt {T : Type 0} (number : ℕ) (old : Station D g) (result : Result T StationFault) : Type 0 where
     pub broken : IsErrOf result Broken ↔ IsBroken old
-    -- but for Broken the number is owed
+    -- except for Broken, the number is owed
     pub owed : IfErr result (λ e. e ≢ Broken → IsOwed (ledger_of old) number)
     pub kinds : IfErr result IsClaimFault
 
-  -- a debt that the connection held was deferred at this moment: it waits, or is dropped where deferred debts are
+  -- a debt that the connection held was deferred at this moment: it waits, or is dropped if deferred debts are
   pub record Defers (connection : ℕ) (deferral : Deferral) (now : ℕ) (old new : Station D g) : Type 0 where
     pub held : IsHeldBy (places_of old) connection (deferred_key deferral)
     pub later : (limits_of old).drop_deferred ≡ false → IsSameTape old new

@@ -1,5 +1,5 @@
--- Where the debts of a peer are (profile). Moments are seconds of the caller's clock, connections are told by their
--- numbers. A debt is told by its key, which is one number (`ledger_core`, `specs/Keys.antt`).
+-- Where the debts of a peer are (profile). Moments are seconds of the caller's clock, connections are known by their
+-- numbers. A debt is known by its key, which is one number (`ledger_core`, `specs/Keys.antt`).
 use Rattle.std.specs.Prelude.{◌≡◌, ◌==◌, ◌+◌, ◌<◌, ◌^◌, ◌-◌, ℕ, zero, suc, Bool, true, false, nat_le, min, Option, Some, option_map, if◌then◌else◌, List, [], ◌∷◌, length, map, find, filter}
 use Rattle.std.specs.BTreeMap.{insert_entry}
 use Rattle.std.specs.Map.{lookup}
@@ -16,7 +16,7 @@ abbrev pub place_until : ℕ → DebtPlace
 place_until zero = Ready
 place_until (suc moment) = Later (suc moment)
 
--- the place of each number that is owed, by rising numbers
+-- the place of each number that is owed, in rising order of the numbers
 abbrev pub Places : Type 0
 Places = List (ℕ × DebtPlace)
 
@@ -36,7 +36,7 @@ IsHeldBy places connection number = place_at places number ≡ Some (Held connec
 abbrev pub all_ready : List ℕ → Places
 all_ready numbers = map (λ (number : ℕ). (number, Ready)) numbers
 
--- the places and one more, in its place by its key
+-- the places and one more, inserted by its key
 abbrev pub with_place : Places → ℕ → DebtPlace → Places
 with_place places key place = insert_entry nat_cmp places key place
 
@@ -81,7 +81,7 @@ released connection places =
 abbrev pub held_count : ℕ → Places → ℕ
 held_count connection places = length (filter (λ (entry : ℕ × DebtPlace). is_held_by connection entry.1) places)
 
--- the moment until which a deferred debt waits: 60 seconds on, or the last that there is
+-- the moment until which a deferred debt waits: 60 seconds later, or the last moment there is
 abbrev pub deferred_until : ℕ → ℕ
 deferred_until now = min (now + 60) (2 ^ 64 - 1)
 
@@ -101,7 +101,7 @@ IsLater (Later moment) = Unit {0}
 abbrev pub IsUnheld : Places → ℕ → Type 0
 IsUnheld places number = option_map is_held (place_at places number) ≡ Some false
 
--- each of these in turn has a place when those before it have none any more, and no connection holds it
+-- each of these in turn, once those before it are gone, has a place, and no connection holds it
 abbrev pub AreUnheld : Places → List ℕ → Type 0
 AreUnheld places [] = Unit {0}
 AreUnheld places (number ∷ numbers) = IsUnheld places number × AreUnheld (gone places number) numbers
@@ -117,7 +117,7 @@ abbrev pub AreAbove : ℕ → Places → Type 0
 AreAbove number [] = Unit {0}
 AreAbove number (entry ∷ rest) = (number < entry.0) × AreAbove number rest
 
--- each number is below all later ones, so that none stands twice
+-- each number is below all later ones, so none is there twice
 abbrev pub AreRising : Places → Type 0
 AreRising [] = Unit {0}
 AreRising (entry ∷ rest) = AreAbove entry.0 rest × AreRising rest

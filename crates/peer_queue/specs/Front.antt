@@ -1,4 +1,4 @@
--- What a front holds, in words of its own. They are the station's where they say the same.
+-- What a front holds. Words that mean the same have the station's names.
 use Rattle.std.specs.Prelude.{◌≡◌, ◌+◌, ◌↔◌, ℕ, List, [], Some, length}
 use Rattle.disk_model.specs.declared.Disk.{Ghosts}
 use Rattle.ledger_core.specs.Keys.{key_of}
@@ -54,7 +54,7 @@ sent_of front = front.outbox.sent
 abbrev pub settled_of : Front → ℕ
 settled_of front = front.outbox.settled
 
--- its place among the fronts of other peers, which its tape has, too
+-- its place among the fronts of other peers; its tape has the same
 abbrev pub place_of : Front → ℕ
 place_of front = front.outbox.place
 
@@ -75,7 +75,7 @@ pub record Notes (old new : Front) (notes : List Note) : Type 0 where
   pub outbox : Pends notes old.outbox new.outbox
   pub limits : limits_of new ≡ limits_of old
 
--- nothing changed but, maybe, the places
+-- at most the places changed
 pub record KeepsNotes (old new : Front) : Type 0 where
   pub outbox : new.outbox ≡ old.outbox
   pub limits : limits_of new ≡ limits_of old
@@ -92,8 +92,8 @@ MeetsFull old connection number =
     (IsBroken old → ⊥) × IsHeldBy (places_of old) connection number × (pending_of old ≡ most_pending)
 
 module _ {D : Type 0} {g : Ghosts D} where
-  -- The front of this station, of which no note pends, at this place: it owes the same at the same places, and as many
-  -- notes are settled as were put on the tape.
+  -- The front of this station, of which no note pends, at this place: it owes the same debts at the same places, and
+  -- as many notes are settled as were put on the tape.
   pub record IsFrontOf (at : ℕ) (station : Station D g) (front : Front) : Type 0 where
     pub shape : front_shape front ≡ shape_of (ledger_of station)
     pub places : places_of front ≡ station_places station
@@ -106,7 +106,7 @@ module _ {D : Type 0} {g : Ghosts D} where
     pub place : place_of front ≡ at
     pub works : IsBroken front ↔ IsBrokenStation station
 
-  -- the tape has this place now, and is else as it was
+  -- the tape has this place now, and is otherwise as it was
   pub record IsPlaced (at : ℕ) (old new : Tape D g) : Type 0 where
     pub place : tape_place new ≡ Some at
     pub stands : (h : History) → StandsFor old h ↔ StandsFor new h

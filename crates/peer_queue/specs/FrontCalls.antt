@@ -30,27 +30,27 @@ use Rattle.peer_queue.specs.declared.settled.Settled.TheVariants.{Answered, Drop
 
 -- ---- refusals
 
--- when it is refused to owe the line of this number, of a source that was noted up to this mark, by this note
+-- when owing the line of this number by this note is refused; its source was noted up to this mark
 abbrev pub RefusesOwe : {T : Type 0} → ℕ → ℕ → Note → Front → Front → Result T StationFault → Type 0
 RefusesOwe mark number note old new result =
     RefusesLine (IsBroken old) (OverflowsShape (front_shape old) note) (IsSame old new) mark number
     (pending_of old) result
 
--- when it is refused to close the source that is open
+-- when closing the open source is refused
 abbrev pub RefusesClose : Front → Front → Result ℕ StationFault → Type 0
 RefusesClose old new result =
     RefusesEnd (IsBroken old) (OverflowsShape (front_shape old) (closing old)) (FitsShape (front_shape old)
     (closing old))
     (IsSame old new) (pending_of old) result
 
--- when a call about a debt is refused that this connection is to hold
+-- when a call is refused that is about a debt which this connection should hold
 abbrev pub Refuses : {A B : Type 0} → Front → ℕ → ℕ → Result A (B × StationFault) → Type 0
 Refuses old connection number result = RefusesHeld (IsBroken old) (IsHeldBy (places_of old) connection number) result
 
 -- When a claim at this moment is refused; then nothing has changed.
 pub record RefusesClaim {T : Type 0} (now : ℕ) (old new : Front) (result : Result T StationFault) : Type 0 where
   pub broken : IsErrOf result Broken ↔ IsBroken old
-  -- but for Broken there was a debt to claim
+  -- except for Broken, there was a debt to claim
   pub no_memory : IsErrOf result NoMemory → IsSome (least_candidate now (places_of old))
   pub kinds : IfErr result (λ e. (e ≡ Broken) ⊎ (e ≡ NoMemory))
   pub places : OnErr result (places_of new ≡ places_of old)
@@ -76,12 +76,12 @@ Settles connection number (Dropped cause) old new = Ends connection number (Drop
 Settles connection number (Later moment) old new = Moves connection number (LaterPlace moment) old new
 Settles connection number Ready old new = Moves connection number ReadyPlace old new
 
--- what an outcome, told at this moment, makes of a front
+-- what an outcome, at this moment, makes of a front
 abbrev pub Finishes : ℕ → ℕ → Outcome → Front → Front → Type 0
 Finishes connection now outcome old new =
     Settles connection (key_in outcome) (settled_by (limits_of old) now outcome) old new
 
--- a debt that the connection held was deferred at this moment: it waits, or is dropped where deferred debts are
+-- a debt that the connection held was deferred at this moment: it waits, or is dropped if deferred debts are
 pub record Defers (connection : ℕ) (deferral : Deferral) (now : ℕ) (old new : Front) : Type 0 where
   pub held : IsHeldBy (places_of old) connection (deferred_key deferral)
   pub later : (limits_of old).drop_deferred ≡ false → KeepsNotes old new
@@ -105,12 +105,12 @@ IsTextOf front key found = IsTextIn front.outbox key found
 
 -- ---- what is sent and settled
 
--- the notes changed so, and nothing else: neither a place nor a limit
+-- only the notes changed, in this way: no place and no limit did
 pub record OnlyOutbox (Changes : Outbox → Outbox → Type 0) (old new : Front) : Type 0 where
   pub outbox : Changes old.outbox new.outbox
   pub places : places_of new ≡ places_of old
   pub limits : limits_of new ≡ limits_of old
 
--- what a flush answered is of this front's tape, and of notes that were sent
+-- a flush's answer is of this front's tape, and covers only notes that were sent
 abbrev pub IsAnswered : Flushed → Front → Type 0
 IsAnswered flushed front = IsAnswerTo flushed front.outbox

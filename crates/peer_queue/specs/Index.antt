@@ -1,5 +1,5 @@
--- What an index of places holds: the moment that each number is due at, if any, and who holds what, told by number and
--- by connection.
+-- What an index of places holds: the moment at which each number is due, if any, and who holds what, by number and by
+-- connection.
 use Rattle.std.specs.Prelude.{◌≡◌, ◌↔◌, ◌<◌, ◌^◌, ℕ, Bool, true}
 use Rattle.std.specs.Prelude.{Option, Some, None, IsSome, map, unwrap_or}
 use Rattle.std.specs.Ordering.{nat_cmp, ordering_then}
@@ -27,7 +27,7 @@ abbrev pub due_at : Wait → ℕ
 due_at ReadyNow = 0
 due_at (Until moment) = moment
 
--- the place of a number that is due at this moment, or at none where this connection holds it
+-- the place of a number that is due at this moment, or at none because this connection holds it
 abbrev pub place_by : Option ℕ → Option ℕ → DebtPlace
 place_by holder None = Held (unwrap_or holder 0)
 place_by holder (Some moment) = place_for (Until moment)
@@ -39,9 +39,9 @@ places_by holders agenda = map (λ (entry : ℕ × Option ℕ). (entry.0, place_
 -- what an index keeps
 pub record IsKept (agenda : Waiting) (holders : Holders) (holds : ℕ → ℕ → Bool) : Type 0 where
   pub rising : IsRising agenda
-  -- a number is due at no moment exactly where a connection holds it
+  -- a number is due at no moment exactly if a connection holds it
   pub held : (number : ℕ) → (due_of agenda number ≡ Some None) ↔ IsSome (holders number)
-  -- who holds what is told alike by connection and by number
+  -- both indexes agree on who holds what
   pub told : (connection number : ℕ) → (holds connection number ≡ true) ↔ (holders number ≡ Some connection)
   -- each moment is one of 64 bits
   pub moments : (number moment : ℕ) → due_of agenda number ≡ Some (Some moment) → moment < 2 ^ 64

@@ -56,11 +56,11 @@ pub record IsSameOutbox (old new : Outbox) : Type 0 where
   pub place : new.place ≡ old.place
   pub works : new.broken ≡ old.broken
 
--- what a flush answered is of this outbox's tape, and of notes that were sent
+-- a flush's answer is of this outbox's tape, and covers only notes that were sent
 abbrev pub IsAnswerTo : Flushed → Outbox → Type 0
 IsAnswerTo flushed outbox = (flushed.place ≡ Some outbox.place) × (flushed.count ≤ outbox.settled + outbox.sent)
 
--- So many more of the notes are settled now. The last 8,192 settled ones lie on, as far as they were there.
+-- This many more of the notes are settled now. The last 8,192 settled ones are kept, as far as they were there.
 pub record Learns (more : ℕ) (old new : Outbox) : Type 0 where
   pub settled : new.settled ≡ old.settled + more
   pub unsettled : unsettled_in new ≡ drop more (unsettled_in old)
@@ -71,7 +71,7 @@ pub record Learns (more : ℕ) (old new : Outbox) : Type 0 where
   pub place : new.place ≡ old.place
   pub works : new.broken ≡ old.broken
 
--- the first note that was not sent is sent now
+-- the first unsent note counts as sent now
 pub record Sends (old new : Outbox) : Type 0 where
   pub unsent : (note : Note) (rest : List Note) → unsent_in old ≡ note ∷ rest → unsent_in new ≡ rest
   pub sent : new.sent ≡ old.sent + 1

@@ -1,4 +1,4 @@
--- When calls are refused, of a station and of a front alike.
+-- When calls of a station or of a front are refused.
 use Rattle.std.specs.Prelude.{◌≡◌, ◌⊎◌, ◌<◌, ◌↔◌, ℕ, IfErr, IsErr, IsErrAnd, IsErrOf, OnErr, Result}
 use Rattle.ledger_core.specs.declared.ledger.LedgerFault.TheVariants.{CountFull}
 use Rattle.recovery.specs.Notes.{most_pending}
@@ -11,23 +11,23 @@ use Rattle.peer_queue.specs.declared.fault.StationFault.TheVariants.{Broken, NoM
 abbrev pub Tells : {A B : Type 0} → Result A (B × StationFault) → StationFault → Type 0
 Tells result fault = IsErrAnd result (λ e. e.1 ≡ fault)
 
--- When it is refused to owe the line of this number, of a source that was noted up to this mark, where so many notes
--- pend, in the order in which it is tried; then nothing has changed.
+-- When owing the line of this number is refused, in the order in which it is tried; its source was noted up to this
+-- mark, and this many notes pend. Nothing has changed then.
 pub record RefusesLine {T : Type 0} (IsBroken Overflows IsSame : Type 0) (mark number pending : ℕ)
     (result : Result T StationFault) : Type 0 where
   pub broken : IsErrOf result Broken ↔ IsBroken
-  -- these two one way, since memory may be refused before either is looked at
+  -- these two only one way, since memory may be refused before either is looked at
   pub count_full : IsErrOf result (Tape (RefusedNote CountFull)) → Overflows
   pub pending_full : IsErrOf result (Tape PendingFull)
       → (mark < number) × (pending ≡ most_pending) × (Overflows → ⊥)
   pub no_memory : IsErrOf result NoMemory → (IsBroken → ⊥) × (mark < number)
-  -- where a count would overflow, or no more may pend of a number that is new, it is never Ok
+  -- if a count would overflow, or if the number is new and no more may pend, it is never Ok
   pub never : Overflows ⊎ (mark < number) × (pending ≡ most_pending) → IsErr result
   pub kinds : IfErr result IsOweFault
   pub unchanged : OnErr result IsSame
 
--- When it is refused to close the source that is open, where so many notes pend, in the order in which it is tried;
--- then nothing has changed.
+-- When closing the open source is refused, in the order in which it is tried, if this many notes pend. Nothing has
+-- changed then.
 pub record RefusesEnd (IsBroken Overflows IsLegal IsSame : Type 0) (pending : ℕ) (result : Result ℕ StationFault)
     : Type 0 where
   pub broken : IsErrOf result Broken ↔ IsBroken
@@ -38,7 +38,7 @@ pub record RefusesEnd (IsBroken Overflows IsLegal IsSame : Type 0) (pending : �
   pub kinds : IfErr result IsOweFault
   pub unchanged : OnErr result IsSame
 
--- Broken comes exactly where it is broken, NotHeld exactly where it is not and the connection doesn't hold the debt
+-- Broken comes exactly if it is broken, NotHeld exactly if it is not and the connection doesn't hold the debt
 pub record RefusesHeld {A B : Type 0} (IsBroken IsHeld : Type 0) (result : Result A (B × StationFault)) : Type 0 where
   pub broken : Tells result Broken ↔ IsBroken
   pub not_held : Tells result NotHeld ↔ ((IsBroken → ⊥) × (IsHeld → ⊥))

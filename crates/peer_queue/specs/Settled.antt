@@ -19,12 +19,12 @@ use Rattle.peer_queue.specs.declared.station.Station.{Station}
 abbrev pub key_in : Outcome → ℕ
 key_in outcome = (debt_in outcome).0
 
--- what becomes of a deferred debt: it is dropped, where deferred debts are, and waits else
+-- what becomes of a deferred debt: it is dropped if deferred debts are, and otherwise waits
 abbrev pub deferred_as : Bool → ℕ → Settled
 deferred_as true now = Dropped PutOff
 deferred_as false now = Later (deferred_until now)
 
--- what becomes of a debt by its outcome, told at this moment to a station of these limits
+-- what becomes of a debt by its outcome, at this moment, at a station of these limits
 abbrev pub settled_by : Limits → ℕ → Outcome → Settled
 settled_by limits now (Final verdict) = Answered verdict.code
 settled_by limits now (Deferred deferral) = deferred_as limits.drop_deferred now
@@ -58,7 +58,7 @@ module _ {D : Type 0} {g : Ghosts D} where
   Settles connection number (Later moment) old new = Moves connection number (LaterPlace moment) old new
   Settles connection number Ready old new = Moves connection number ReadyPlace old new
 
-  -- what an outcome, told at this moment, makes of a station
+  -- what an outcome, at this moment, makes of a station
   abbrev pub Finishes : ℕ → ℕ → Outcome → Station D g → Station D g → Type 0
   Finishes connection now outcome old new =
       Settles connection (key_in outcome) (settled_by (limits_of old) now outcome) old new

@@ -6,7 +6,7 @@ use Rattle.ledger_core.specs.State.{AllLegal, State, after, step}
 use Rattle.ledger_core.specs.declared.note.Note.{Note}
 use Rattle.peer_queue.specs.Shapes.{AllFit, shape_after}
 
--- the shape of a ledger after notes is told by the shape before them
+-- the shape of a ledger after notes depends only on the shape before them
 pub shape-after : (state : State) (notes : List Note) → shape_of (after state notes) ≡ shape_after
     (shape_of state) notes
 shape-after state [] = refl

@@ -13,7 +13,7 @@ use Rattle.peer_queue.specs.DebtPlace.{Places, unheld}
 abbrev pub owed_without : State → List ℕ → ℕ
 owed_without state numbers = octets_of_debts (filter (λ (debt : Owing). if list_any (λ (number : ℕ). number == debt.0) numbers then false else true) state.debts)
 
--- nothing is to be shed of so many octets that are owed: there is no limit, or they are not above the high water
+-- nothing is to be shed if this many octets are owed: there is no limit, or they are not above the high water
 abbrev pub AreWithin : Limits → ℕ → Type 0
 AreWithin limits octets = (limits.backlog_limit ≡ 0) ⊎ (octets ≤ limits.backlog_high)
 
@@ -21,16 +21,15 @@ AreWithin limits octets = (limits.backlog_limit ≡ 0) ⊎ (octets ≤ limits.ba
 abbrev pub IsWithin : Limits → State → Type 0
 IsWithin limits state = AreWithin limits (owed_bytes state)
 
--- ys is the shortest prefix of xs that passes, or all of xs where none does
+-- ys is the shortest prefix of xs that passes, or all of xs if none does
 pub record IsShortestPrefix {A : Type 0} (Passes : List A → Type 0) (xs ys : List A) : Type 0 where
   pub prefix : ys ≡ take (length ys) xs
   pub passes : Passes ys ⊎ (ys ≡ xs)
   pub shortest : (fewer : ℕ) → fewer < length ys → Passes (take fewer xs) → ⊥
 
--- The numbers to shed, where so many octets are owed, and so many without the debts of some: none within the limit,
--- else
--- of the debts that no connection holds, oldest first, the shortest prefix without which the octets that are owed are at
--- or below it.
+-- The numbers to shed, given how many octets are owed, and how many without the debts of some numbers. Within the
+-- limit there are none. Otherwise it is, of the debts that no connection holds, oldest first, the shortest prefix
+-- without which the octets owed are at or below the limit.
 abbrev pub IsShedOf : Limits → ℕ → (List ℕ → ℕ) → Places → List ℕ → Type 0
 IsShedOf limits octets octets_without places numbers =
     (AreWithin limits octets × (numbers ≡ []))

@@ -34,7 +34,7 @@ rising_gone : (n : ℕ) (p : Places) → AreRising p → AreRising (gone p n)
 rising_gone n [] rising = tt
 rising_gone n (e ∷ p) rising = rising_step (e.0 == n) e (gone p n) (above_gone e.0 n p rising.0) (rising_gone n p rising.1)
 
--- the first that no connection holds is above what all are above
+-- the first number that no connection holds is above whatever all numbers are above
 unheld_above : (m : ℕ) (p : Places) (n : ℕ) (rest : List ℕ) → AreAbove m p → unheld p ≡ n ∷ rest → m < n
 unheld_above m [] n rest above is = cc
 unheld_above m (e ∷ p) n rest above is = on (is_held e.1) (λ behind. unheld_above m p n rest above.1 behind) is
@@ -46,7 +46,7 @@ unheld_above m (e ∷ p) n rest above is = on (is_held e.1) (λ behind. unheld_a
     on true later behind = later behind
     on false later here = let same : e.0 ≡ n = cc in omega (arith, above.0, same)
 
--- the first of those that no connection holds, taken out
+-- what is left without the first number that no connection holds
 unheld_first : (p : Places) (n : ℕ) (rest : List ℕ) → AreRising p → unheld p ≡ n ∷ rest
     → IsUnheld p n × (unheld (gone p n) ≡ rest)
 unheld_first [] n rest rising is = cc

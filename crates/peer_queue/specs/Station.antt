@@ -7,7 +7,7 @@ use Rattle.peer_queue.specs.Shed.{IsShedSet}
 use Rattle.peer_queue.specs.declared.limits.Limits.{Limits}
 use Rattle.peer_queue.specs.declared.limits.Shed.{Shed}
 
--- What was shed of the numbers to shed: all of them, or so much of their prefix as there was room for.
+-- What was shed of the numbers to shed: all of them, or the longest prefix for which there was room.
 pub record IsShedFrom (IsSet : List ℕ → Type 0) (pending : ℕ) (shed : Shed) : Type 0 where
   pub set : List ℕ
   pub is_set : IsSet set

@@ -1,4 +1,4 @@
--- What a station holds, in words of its own.
+-- What a station holds.
 use Rattle.std.specs.Prelude.{◌≡◌, ◌+◌, ◌↔◌, ℕ, Result}
 use Rattle.disk_model.specs.declared.Disk.{Ghosts}
 use Rattle.ledger_core.specs.declared.note.Note.{Note}
@@ -52,11 +52,11 @@ module _ {D : Type 0} {g : Ghosts D} where
   abbrev pub AreHonest : Station D g → Type 0
   AreHonest station = AreTapeHonest station.tape
 
-  -- the counts of faults that they told
+  -- how many faults they have reported
   abbrev pub faults_of : Station D g → ℕ × ℕ
   faults_of station = tape_faults station.tape
 
-  -- they are honest where they were, and their counts of faults did not fall
+  -- they are honest if they were, and their counts of faults did not fall
   abbrev pub Continues : Station D g → Station D g → Type 0
   Continues old new = TapeContinues old.tape new.tape
 
@@ -104,13 +104,13 @@ module _ {D : Type 0} {g : Ghosts D} where
   abbrev pub places_of : Station D g → Places
   places_of station = station.index
 
-  -- the tape stayed as it was, so that it stands for the same history
+  -- the tape stayed as it was, so it stands for the same history
   pub record IsSameTape (old new : Station D g) : Type 0 where
     pub tape : new.tape ≡ old.tape
     pub limits : new.limits ≡ old.limits
 
-  -- Nothing changed but that the tape was read, and the places: it stands for the same histories, and on an
-  -- honest disk nothing happened.
+  -- Only the places changed, and the tape was read: it stands for the same histories, and on an honest disk nothing
+  -- happened.
   pub record IsRead (old new : Station D g) : Type 0 where
     pub tape : IsTapeRead old.tape new.tape
     pub limits : new.limits ≡ old.limits
@@ -135,7 +135,8 @@ module _ {D : Type 0} {g : Ghosts D} where
     pub limits : limits_of new ≡ limits_of old
     pub works : IsBroken old ↔ IsBroken new
 
-  -- Broken comes exactly where the station is broken, NotHeld exactly where it is not and that connection doesn't hold that number
+  -- Broken comes exactly if the station is broken, NotHeld exactly if it is not and that connection doesn't hold that
+  -- number
   abbrev pub Refuses : {A B : Type 0} → Station D g → ℕ → ℕ → Result A (B × StationFault) → Type 0
   Refuses old connection number result = RefusesHeld (IsBroken old) (IsHeldBy (places_of old) connection number) result
 

@@ -7,8 +7,8 @@ use recovery::TapeFault;
 use std::alloc::AllocError;
 use thiserror::Error;
 
-/// Why a station refuses a call. A refusal changes nothing, but that a `Tape(Disk)` of `flush` or `rotate` breaks the
-/// station; one of `claim` or `debt` does not.
+/// Why a station refuses a call. A refusal changes nothing, except that a `Tape(Disk)` of `flush` or `rotate` breaks
+/// the station; one of `claim` or `debt` does not.
 #[derive(Clone, Copy, Debug, PartialEq, Eq, Error)]
 pub enum StationFault {
     /// That connection does not hold that debt.
@@ -17,7 +17,7 @@ pub enum StationFault {
     /// A `flush` or a `rotate` failed on a disk before.
     #[error("Broken")]
     Broken,
-    /// The tape refused; a tape's `Broken` and `NoMemory` are the station's.
+    /// The tape refused. A tape's `Broken` and `NoMemory` come as the station's own.
     #[error("Tape {0}")]
     Tape(TapeFault),
     /// Memory was refused.
@@ -33,7 +33,7 @@ impl From<AllocError> for StationFault {
     }
 }
 
-// A tape's fault, as a station tells it.
+// A tape's fault, as a station reports it.
 pub(crate) fn station_fault(fault: TapeFault) -> StationFault
     ensures { result ≡ station_fault fault }
 {

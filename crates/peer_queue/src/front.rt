@@ -1,4 +1,4 @@
-// The front of a station: all that is owed, and where it is, beside a tape that another has.
+// The front of a station: all that is owed, and where each debt is. Somebody else has the tape.
 ghost use Rattle.std.specs.Prelude.{◌≡◌, ◌≢◌, ◌+◌, ◌-◌, ◌<◌, ◌^◌, ◌∷◌, [], ℕ};
 ghost use Rattle.std.specs.List.{All};
 ghost use Rattle.std.specs.List.Sorted.{IsStrictlyIncreasing};
@@ -20,15 +20,16 @@ use std::alloc::{AllocError, Global};
 
 /// All that one peer is owed, without its tape.
 ///
-/// `Station::split` makes it, and the tape is another's, who syncs it. The front makes notes as the station did.
-/// Whoever has both takes them from the front in order (`next_unsent`, `sent_one`), puts them on the tape, and tells
-/// the front what each flush answered (`settled`), or that the tape broke (`broke`). Until then a note pends.
+/// `Station::split` makes it, and the tape goes to another owner, who syncs it. The front makes notes as the station
+/// did. Whoever has both takes the notes from the front in order (`next_unsent`, `sent_one`), puts them on the tape,
+/// and reports to the front what each flush returned (`settled`), or that the tape broke (`broke`). Until a flush has
+/// settled it, a note pends.
 ///
-/// It has no text of a debt but those of the notes that pend, and of the last 8,192 that were settled (`unsettled`).
-/// The others are on the tape.
+/// It has the texts only of notes that pend, and of the last 8,192 that were settled (`unsettled`). The others are on
+/// the tape.
 ///
-/// Each call is logarithmic in what is owed; `release` for each debt that it moves, `shed` for each that there is room
-/// for among the notes that pend, and `settled` for each note that it lets go; `list` is linear.
+/// Each call is logarithmic in what is owed: `release` for each debt that it moves, `shed` for each that there is room
+/// for among the notes that pend, and `settled` for each note that it lets go. `list` is linear.
 #[derive(Drop)]
 pub struct Front {
     pub(crate) alloc: Global,
@@ -115,7 +116,7 @@ impl Front {
         self.owe_new(Key::new(source, number), token, id)
     }
 
-    /// Closes the source that is open, and gives it: the next one is open from now on.
+    /// Closes the source that is open, and returns its number: the next one is open from now on.
     ///
     /// # Errors
     /// Nothing changes. Tried in this order: `Broken`; `Tape(Note(CountFull))` if it is the last source;
@@ -134,7 +135,7 @@ impl Front {
     }
 
     /// Claims the least key that is ready, or later until a moment at or before `now`: from now on this connection
-    /// holds it. `unsettled` has its texts, or else the tape.
+    /// holds it. `unsettled` returns its texts, unless the tape alone has them.
     ///
     /// # Errors
     /// Tried in this order: `Broken`; `NoMemory`. Nothing changes.
@@ -177,8 +178,8 @@ impl Front {
         self.settle_as(connection, key, Settled::Ready)
     }
 
-    /// The texts of a debt whose note is not settled, or was settled lately, in a copy; none if the key is not owed, or
-    /// the tape alone has its texts.
+    /// A copy of a debt whose note is not settled, or was settled lately; `None` if the key is not owed, or if the tape
+    /// alone has its texts.
     ///
     /// # Errors
     /// `NoMemory` if memory was refused.
@@ -216,10 +217,10 @@ impl Front {
         }
     }
 
-    /// Has a deferred debt wait until 60 seconds after `now`, or drops it where the limits say so.
+    /// Makes a deferred debt wait until 60 seconds after `now`, or drops it if the limits say so.
     ///
     /// # Errors
-    /// The deferral is handed back. Tried in this order: `Broken`; `NotHeld`; where it is dropped `Tape(PendingFull)`,
+    /// The deferral is handed back. Tried in this order: `Broken`; `NotHeld`; if it is dropped `Tape(PendingFull)`,
     /// `NoMemory`.
     pub fn defer(
         &mut self,
@@ -292,7 +293,7 @@ impl Front {
         }
     }
 
-    /// Takes a debt back, and has it wait until this moment; until 0 is no wait: it is ready. Takes no memory, and
+    /// Takes a debt back, and makes it wait until this moment; until 0 is no wait: it is ready. Takes no memory, and
     /// makes no note.
     ///
     /// # Errors
@@ -322,11 +323,11 @@ impl Front {
         Ok(())
     }
 
-    /// Takes what a connection tells of a debt that it held: a final answer settles it, a deferral has it wait or drops
-    /// it, where the article can't be sent it is dropped, and where it came back it is ready.
+    /// Takes a connection's outcome of a debt that it held: a final answer settles it, a deferral makes it wait or
+    /// drops it, a debt whose article can't be sent is dropped, and one that came back is ready.
     ///
     /// # Errors
-    /// The outcome is handed back. Tried in this order: `Broken`; `NotHeld`; where the debt ends `Tape(PendingFull)`,
+    /// The outcome is handed back. Tried in this order: `Broken`; `NotHeld`; if the debt ends `Tape(PendingFull)`,
     /// `NoMemory`.
     pub fn finish(
         &mut self,
@@ -354,19 +355,20 @@ impl Front {
         }
     }
 
-    /// Makes all that this connection held ready, and counts it. Takes no memory. A broken front answers too.
+    /// Makes all debts ready that this connection held, and returns how many. Takes no memory. A broken front
+    /// answers too.
     pub fn release(&mut self, connection: CxnId) -> u64
         ensures count { result ≡ held_count connection.0 (places_of self.old) }
         ensures places { places_of self.new ≡ released connection.0 (places_of self.old) }
         ensures keeps { KeepsNotes self.old self.new }
     {
-        // No more are held than are owed, so that the count fits.
+        // No more are held than are owed, so the count fits.
         let _totals = self.outbox.outline.totals();
         self.index.release(connection)
     }
 
-    /// Drops, oldest first, what exceeds the backlog's limit, as far as there is room among the notes that pend. All of
-    /// it is dropped, or on a refusal nothing. It gathers one key more than there is room for at most.
+    /// Drops, oldest first, what exceeds the backlog's limit, as far as there is room among the notes that pend. On a
+    /// refusal nothing is dropped. It gathers at most one key more than there is room for.
     ///
     /// # Errors
     /// Tried in this order: `Broken`; `NoMemory`.
@@ -380,7 +382,7 @@ impl Front {
         if self.outbox.broken {
             return Err(StationFault::Broken);
         }
-        // What was taken is a sum with what was dropped, so that no count passes the greatest number.
+        // What was taken is a sum with what was dropped, so no count passes the greatest number.
         let _totals = self.outbox.outline.totals();
         let room = self.outbox.room();
         let mut keys = self.shed_set(room)?;
@@ -400,7 +402,7 @@ impl Front {
         self.outbox.next_unsent()
     }
 
-    /// The first note that was not sent is sent now. There is one.
+    /// The first unsent note, which exists, counts as sent from now on.
     pub fn sent_one(&mut self)
         requires { unsent_of self.old ≢ [] }
         ensures sends { OnlyOutbox Sends self.old self.new }
@@ -408,8 +410,8 @@ impl Front {
         self.outbox.sent_one();
     }
 
-    /// Whether what a flush answered is of this front's tape, and of notes that were sent: these are settled from now
-    /// on. Those that were on the tape at the split count as sent. Takes no memory.
+    /// Settles the notes that a flush has put on the disks, if its answer is of this front's tape and covers only notes
+    /// that were sent; returns whether it is. The notes on the tape at the split count as sent. Takes no memory.
     pub fn settled(&mut self, flushed: &Flushed) -> bool
         ensures answer { IsTrue result ↔ IsAnswered flushed.now self.old }
         ensures learns { IsTrue result
@@ -426,23 +428,23 @@ impl Front {
         self.outbox.broke();
     }
 
-    /// How many notes its tape counts once all of them are on it, or the greatest u64 where that is less: a flush that
-    /// answers so many has settled all that pend now. A broken front answers too.
+    /// How many notes its tape counts once all of them are on it, at most the greatest u64: a flush that returns this
+    /// number has settled all that pend now. A broken front answers too.
     pub fn noted(&self) -> u64
         ensures { result ≡ min (settled_of self.now + pending_of self.now) (2 ^ 64 - 1) }
     {
         self.outbox.noted()
     }
 
-    /// How many notes its tape counts once all that were sent are on it, or the greatest u64 where that is less. A
-    /// broken front answers too.
+    /// How many notes its tape counts once all that were sent are on it, at most the greatest u64. A broken front
+    /// answers too.
     pub fn sent(&self) -> u64
         ensures { result ≡ min (settled_of self.now + sent_of self.now) (2 ^ 64 - 1) }
     {
         self.outbox.settled.saturating_add(self.outbox.sent as u64)
     }
 
-    /// Its place among the fronts of other peers, which its tape has, too. A broken front answers too.
+    /// Its place among the fronts of other peers; its tape has the same. A broken front answers too.
     pub fn place(&self) -> usize
         ensures { result ≡ place_of self.now }
     {
@@ -452,7 +454,7 @@ impl Front {
     /// The keys that are owed, rising. A broken front answers too.
     ///
     /// # Errors
-    /// `NoMemory` where memory was refused.
+    /// `NoMemory` if memory was refused.
     pub fn list(&self) -> Result<Vec<Key>, AllocError>
         ensures items { IfOk result (λ v. v.items ≡ keys_sized (front_shape self.now).sizes) }
         ensures rising { IfOk result (λ v. IsStrictlyIncreasing v.items) }
@@ -513,7 +515,7 @@ impl Front {
         self.index.all_later()
     }
 
-    // Notes what is owed anew, and makes it ready.
+    // Notes a debt that is newly owed, and makes it ready.
     fn owe_new(&mut self, key: Key, token: &Token, id: &MsgId) -> Result<Owed, StationFault>
         requires works { IsBroken self.old → ⊥ }
         requires next { IsNext (shape_marks (front_shape self.old)) key }
@@ -542,7 +544,7 @@ impl Front {
         Ok(Owed::New)
     }
 
-    // Makes this of a debt that this connection holds.
+    // Does to a debt that this connection holds what its outcome says.
     fn settle_as(
         &mut self,
         connection: CxnId,
@@ -594,7 +596,7 @@ impl Front {
             ⊎ (e ≡ StationFault.NoMemory)) }
         ensures unchanged { OnErr result (IsSame self.old self.new) }
     {
-        // What was taken is a sum with what has ended, so that no count passes the greatest number.
+        // What was taken is a sum with what has ended, so no count passes the greatest number.
         let _totals = self.outbox.outline.totals();
         if let Err((_, fault)) = self.outbox.note(note) {
             return Err(station_fault(fault));
@@ -603,7 +605,7 @@ impl Front {
         Ok(())
     }
 
-    // Has a debt that this connection holds wait for this.
+    // Makes a debt that this connection holds wait for this.
     fn give_up(&mut self, connection: CxnId, key: Key, wait: Wait)
         requires { IsHeldBy (places_of self.old) connection.0 key }
         ensures keeps { KeepsNotes self.old self.new }
@@ -620,7 +622,7 @@ impl Front {
         match key.next() {
             Some(next) => self.index.unheld_from(next),
             None => {
-                // It has 64 bits, so that the last key is above all that are owed.
+                // It has 64 bits, so the last key is above all that are owed.
                 let _import_mark = self.outbox.outline.import_mark();
                 let _closed = self.outbox.outline.closed();
                 None
@@ -628,7 +630,7 @@ impl Front {
         }
     }
 
-    // The keys to shed, oldest first, or the first of them: one more than there is room for at most.
+    // The keys to shed, oldest first: at most one more than there is room for.
     fn shed_set(&self, room: usize) -> Result<Vec<Key>, AllocError>
         ensures set { IfOk result (λ found. (set : List ℕ)
             × IsShedByShape (limits_of self.now) (front_shape self.now) (places_of self.now) set

@@ -1,4 +1,4 @@
-//! Laws of stations, each the contract of a function that does what it is about.
+//! Laws of stations. Each is the contract of a function that does what the law is about.
 ghost use Rattle.std.specs.Prelude.{◌≡◌, ◌≢◌, ◌↔◌, ◌≤◌, ◌+◌, ◌-◌, ◌^◌, ℕ, length};
 ghost use Rattle.std.specs.Prelude.{IfErr, IfOk};
 ghost use Rattle.ledger_core.specs.State.{keys};

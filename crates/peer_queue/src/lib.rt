@@ -1,8 +1,8 @@
 //! A station: all that one peer is owed, and where each debt is: ready, held by one connection, or later until a
 //! moment.
 //!
-//! May touch the disks that it is given and nothing else; it stands on `recovery`, `deferral` and `conn_core`, and is
-//! neither Sync nor in need of it: who shares it puts a lock round it. The crates above use `Station`: its ledger as a
+//! May touch the disks that it is given and nothing else; it stands on `recovery`, `deferral` and `conn_core`. It is
+//! not Sync: whoever shares it puts a lock round it. The crates above use `Station`: its ledger as a
 //! history of notes (`specs/Words.antt`, `StandsFor`), so that the tape's stop theorem is the station's, the places of
 //! the debts as plain data (`specs/DebtPlace.antt`), and what an outcome of a connection makes of both
 //! (`specs/Settled.antt`, `Finishes`).

@@ -5,7 +5,7 @@ use ledger_core::Key;
 /// count as in [`ledger_core::Totals::owed_bytes`].
 #[derive(Clone, Copy, Debug, PartialEq, Eq)]
 pub struct Limits {
-    /// The octets that may stay owed once the backlog has been shed; 0: there is no limit.
+    /// The octets that may stay owed once the backlog has been shed; 0 is no limit.
     pub backlog_limit: u64,
     /// The octets above which it is shed.
     pub backlog_high: u64,
@@ -18,11 +18,11 @@ pub struct Limits {
 pub struct Shed {
     /// The keys that were dropped, rising.
     pub keys: Vec<Key>,
-    /// Whether more is to be shed, for which there was no room among the notes that pend.
+    /// Whether there is more to shed, for which the notes that pend left no room.
     pub more: bool,
 }
 
-/// Whether a line was owed anew, or was before.
+/// Whether a line is newly owed, or was owed before.
 #[derive(Clone, Copy, Debug, PartialEq, Eq)]
 pub enum Owed {
     /// It is owed from now on.

@@ -23,19 +23,19 @@ const MOST_LYING: usize = 8192;
 /// The ledger of a front, without texts, and the notes that it sends to its tape.
 ///
 /// A note pends until it is settled: until a flush of the tape has put it on the disks. The last notes that were
-/// settled lie on for a while, so that a claim finds the texts of a fresh debt here.
+/// settled are kept for a while, so that a claim finds the texts of a fresh debt here.
 ///
 /// The notes are numbered as the tape counts them, from 1 on, and the outline keeps the number of the note that owed
-/// a debt: its ordinal. An ordinal of 0 tells that the tape alone has the texts: of what was owed at the split, and of
+/// a debt: its ordinal. An ordinal of 0 means that the tape alone has the texts: of what was owed at the split, and of
 /// a note whose number would be above the greatest u64.
 #[derive(Drop)]
 pub(crate) struct Outbox {
     pub(crate) outline: Outline,
-    // First the settled notes that lie on, then those that are not settled.
+    // First the settled notes that are still kept, then those that are not settled.
     pub(crate) notes: VecDeque<Note>,
     // How many of them are settled.
     pub(crate) lying: usize,
-    // How many of the others were sent: the first.
+    // How many of the others were sent: the first ones.
     pub(crate) sent: usize,
     // How many notes are settled, as the tape counts them.
     pub(crate) settled: u64,
@@ -44,6 +44,7 @@ pub(crate) struct Outbox {
     // Whether the tape broke.
     pub(crate) broken: bool,
     ghost within: { lying + sent ≤ length notes.items },
+    // At most 65,536 notes pend, so memory stays bounded.
     ghost few: { length notes.items ≤ lying + most_pending },
     ghost least: { lying ≤ most_lying },
     ghost counted: { lying ≤ settled },
@@ -62,7 +63,8 @@ impl Outbox {
     ghost use Rattle.recovery.specs.Notes.{drops};
     ghost use Rattle.recovery.specs.Words.{IsNoteFault, Tells};
 
-    /// That of a tape of a ledger of this outline, at this place, which counts so many notes, none of which pends.
+    /// The outbox of a tape whose ledger has this outline, at this place, and which counts this many notes, none of
+    /// which pends.
     pub fn new(alloc: Global, outline: Outline, place: usize, settled: u64, broken: bool) -> Self
         ensures shape { box_shape result ≡ shape_in outline }
         ensures notes { notes_in result ≡ [] }
@@ -125,7 +127,7 @@ impl Outbox {
         }
     }
 
-    /// Takes the note that owes a debt, as `note` does: its texts are copied after all other refusals.
+    /// Takes the note that owes a debt, as `note` does. Its texts are copied last: no other refusal costs a copy.
     ///
     /// # Errors
     /// Nothing changes. Those of `note`, in the same order.
@@ -181,7 +183,7 @@ impl Outbox {
         }
     }
 
-    // Gets memory for so many more notes.
+    // Reserves memory for this many more notes.
     fn make_room(&mut self, count: usize) -> Result<(), AllocError>
         ensures ok { OnOk result
             (length (notes_in self.new) + count ≤ deque_capacity self.new.notes) }
@@ -202,7 +204,7 @@ impl Outbox {
         ensures capacity { deque_capacity self.new.notes ≡ deque_capacity self.old.notes }
     {
         let ordinal = self.next_ordinal();
-        // It has 64 bits, so that what is owed may be owed when the source is closed, too.
+        // It has 64 bits, so what is owed may also be owed when the source is closed.
         let _import_mark = self.outline.import_mark();
         match self.outline.apply(&note, ordinal) {
             Ok(()) => {
@@ -225,7 +227,7 @@ impl Outbox {
         }
     }
 
-    /// Takes the note that drops each of these debts, in this order, all of them or none.
+    /// Takes the note that drops each of these debts, in this order: all of them or none.
     ///
     /// # Errors
     /// `NoMemory`, and nothing changes.
@@ -243,7 +245,7 @@ impl Outbox {
         Ok(())
     }
 
-    /// How many notes the tape counts once all are on it, or the greatest u64 where that is less.
+    /// How many notes the tape counts once all are on it, at most the greatest u64.
     pub fn noted(&self) -> u64
         ensures { result ≡ min (self.now.settled + length (unsettled_in self.now)) (2 ^ 64 - 1) }
     {
@@ -267,7 +269,7 @@ impl Outbox {
         }
     }
 
-    // Where the note stands that owes the debt of this key, if it is here.
+    // Where among the notes here the one is that owes the debt of this key.
     fn index_of(&self, key: Key) -> Option<usize>
         ensures owed { IfSome result (λ index. IsSized (box_shape self.now) key) }
         ensures some { IfSome result (λ index. (at : ℕ) → OwesAt (notes_in self.now) at key
@@ -293,7 +295,7 @@ impl Outbox {
         self.notes.get(self.lying + self.sent)
     }
 
-    /// The first note that was not sent is sent now.
+    /// The first unsent note counts as sent from now on.
     pub fn sent_one(&mut self)
         requires { unsent_in self.old ≢ [] }
         ensures { Sends self.old self.new }
@@ -308,7 +310,8 @@ impl Outbox {
         self.broken = true;
     }
 
-    /// Whether what a flush answered is of this outbox's tape, and of notes that were sent: they are settled then.
+    /// Settles the notes that a flush has put on the disks, if its answer is of this outbox's tape and covers only
+    /// notes that were sent; returns whether it is.
     pub fn settled(&mut self, flushed: &Flushed) -> bool
         ensures answer { IsTrue result ↔ IsAnswerTo flushed.now self.old }
         ensures settles { IsTrue result
@@ -326,7 +329,7 @@ impl Outbox {
         true
     }
 
-    // Whether a tape of this place is this outbox's.
+    // Whether a tape at this place is this outbox's.
     fn is_own(&self, place: Option<usize>) -> bool
         ensures { IsTrue result ↔ place ≡ Some self.now.place }
     {
@@ -336,7 +339,7 @@ impl Outbox {
         }
     }
 
-    // So many more of the notes are settled now, all of which were sent.
+    // This many more of the notes are settled now; all of them were sent.
     fn settle(&mut self, more: usize)
         requires sent { more ≤ self.old.sent }
         requires fits { self.old.settled + more < 2 ^ 64 }
@@ -351,7 +354,7 @@ impl Outbox {
     }
 }
 
-// Lets go the first so many.
+// Lets go of the first `count`.
 fn forget(notes: &mut VecDeque<Note>, count: usize)
     requires { count ≤ length notes.old.items }
     ensures { notes.new.items ≡ drop count notes.old.items }

@@ -21,7 +21,7 @@ use std::marker::Model;
 /// Contracts see it as the list of the keys with their places, by rising keys.
 #[derive(Drop)]
 pub(crate) struct PlaceIndex {
-    // Each key, with the moment that it is due at: that of its wait, and none where a connection holds it.
+    // Each key, with the moment at which it is due: that of its wait, or none if a connection holds it.
     agenda: Later,
     // The connection that holds a key.
     holders: BTreeMap<Key, u64>,
@@ -60,13 +60,13 @@ impl PlaceIndex {
     /// A key that has no place is ready.
     ///
     /// # Errors
-    /// `NoMemory` where memory was refused; nothing changes.
+    /// `NoMemory` if memory was refused; nothing changes.
     pub fn add(&mut self, key: Key) -> Result<(), AllocError>
         requires { place_at self.old key ≡ None }
         ensures ok { OnOk result (self.new ≡ with_place self.old key Ready) }
         ensures unchanged { OnErr result (self.new ≡ self.old) }
     {
-        // The keys still rise.
+        // For the prover: the keys still rise.
         after_put();
         self.agenda.put(key, Wait::Ready.due_at())
     }
@@ -90,16 +90,16 @@ impl PlaceIndex {
         }
     }
 
-    /// Has a connection hold a key that none holds.
+    /// A connection holds this key from now on; none held it before.
     ///
     /// # Errors
-    /// `NoMemory` where memory was refused; nothing changes.
+    /// `NoMemory` if memory was refused; nothing changes.
     pub fn hold(&mut self, connection: CxnId, key: Key) -> Result<(), AllocError>
         requires { IsUnheld self.old key }
         ensures ok { OnOk result (self.new ≡ moved self.old key (Held connection.0)) }
         ensures unchanged { OnErr result (self.new ≡ self.old) }
     {
-        // The same keys wait, and they rise.
+        // For the prover: the same keys wait, and they rise.
         after_set();
         self.held.insert((connection.0, key))?;
         if self.holders.insert(key, connection.0).is_err() {
@@ -110,14 +110,14 @@ impl PlaceIndex {
         Ok(())
     }
 
-    /// Has a key that this connection holds wait for this. Takes no memory.
+    /// Makes a key that this connection holds wait for this. Takes no memory.
     pub fn give_up(&mut self, connection: CxnId, key: Key, wait: Wait)
         requires { IsHeldBy self.old connection.0 key }
         ensures { self.new ≡ moved self.old key (place_for wait) }
     {
         self.held.remove(&(connection.0, key));
         self.holders.remove(&key);
-        // The same keys wait, and they rise.
+        // For the prover: the same keys wait, and they rise.
         after_set();
         self.agenda.set(key, Some(wait.due_at()));
     }
@@ -127,7 +127,7 @@ impl PlaceIndex {
         requires { IsUnheld self.old key }
         ensures { self.new ≡ gone self.old key }
     {
-        // The others wait as before, and they rise.
+        // For the prover: the others wait as before, and they rise.
         after_remove();
         self.agenda.remove(key);
     }
@@ -139,12 +139,12 @@ impl PlaceIndex {
     {
         self.held.remove(&(connection.0, key));
         self.holders.remove(&key);
-        // The others wait as before, and they rise.
+        // For the prover: the others wait as before, and they rise.
         after_remove();
         self.agenda.remove(key);
     }
 
-    // A key that this connection holds, where it holds one.
+    // A key that this connection holds, if it holds any.
     fn first_held_by(&self, connection: CxnId) -> Option<Key>
         ensures some { IfSome result (λ key. IsHeldBy self.now connection.0 key) }
         ensures none { IfNone result ((key : ℕ) → IsHeldBy self.now connection.0 key → ⊥) }
@@ -158,8 +158,8 @@ impl PlaceIndex {
         }
     }
 
-    /// Makes all that this connection holds ready, and counts it. Takes no memory. Logarithmic for each key that it
-    /// holds.
+    /// Makes all keys ready that this connection holds, and returns how many. Takes no memory. Logarithmic for each of
+    /// them.
     pub fn release(&mut self, connection: CxnId) -> u64
         requires { length self.old < 2 ^ 64 }
         ensures count { result ≡ held_count connection.0 self.old }
@@ -181,7 +181,7 @@ impl PlaceIndex {
         self.agenda.due_from(first, u64::MAX)
     }
 
-    /// Whether each key waits for a moment.
+    /// Whether every key waits for a moment.
     pub fn all_later(&self) -> bool
         ensures { IsTrue result ↔ All (λ entry. IsLater entry.1) self.now }
     {

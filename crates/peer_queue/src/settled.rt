@@ -7,7 +7,7 @@ use crate::Limits;
 use conn_core::Outcome;
 use ledger_core::{Cause, FinalCode, Key};
 
-/// What became of a debt by the outcome that its connection told.
+/// What became of a debt by its connection's outcome.
 #[derive(Clone, Copy, Debug, PartialEq, Eq)]
 pub enum Settled {
     /// The peer answered for good, and it is owed no more.
@@ -21,7 +21,7 @@ pub enum Settled {
 }
 
 impl Settled {
-    // What becomes of a debt by its outcome, told at this moment to a station of these limits.
+    // What becomes of a debt by its outcome, at this moment, at a station of these limits.
     pub(crate) fn by(outcome: &Outcome, limits: Limits, now: u64) -> Self
         ensures { result ≡ settled_by limits now outcome.now }
     {
@@ -33,7 +33,7 @@ impl Settled {
         }
     }
 
-    // What becomes of a deferred debt: it is dropped where the limits say so, and waits else.
+    // What becomes of a deferred debt: it is dropped if the limits say so, and otherwise waits.
     pub(crate) fn deferred(limits: Limits, now: u64) -> Self
         ensures { result ≡ deferred_as limits.drop_deferred now }
     {
@@ -57,7 +57,7 @@ pub fn key_in(outcome: &Outcome) -> Key
     }
 }
 
-/// The moment until which a debt waits that is deferred at this one: 60 seconds on, or the last that there is.
+/// The moment until which a debt waits that is deferred at this one: 60 seconds later, or the last moment there is.
 pub fn deferred_until(now: u64) -> u64
     ensures { result ≡ deferred_until now }
 {

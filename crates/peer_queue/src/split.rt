@@ -11,8 +11,8 @@ use recovery::Tape;
 use std::alloc::AllocError;
 
 impl<D: Disk> Station<D> {
-    /// Splits a station of which no note pends into its front and its tape, which get this place among those of other
-    /// peers. The front begins with what the tape counts as settled; if the tape is broken, the front is. Linear in
+    /// Splits a station, of which no note pends, into its front and its tape. Both get this place among those of other
+    /// peers. The front begins with what the tape counts as settled; if the tape is broken, so is the front. Linear in
     /// what is owed.
     ///
     /// # Errors

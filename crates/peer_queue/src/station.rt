@@ -1,4 +1,4 @@
-// Stations.
+// A station: all that one peer is owed, over its tape.
 ghost use Rattle.std.specs.Prelude.{◌≡◌, ◌≢◌, ◌+◌, ◌≤◌, ◌<◌, ◌^◌, ℕ, None};
 ghost use Rattle.std.specs.List.{All};
 ghost use Rattle.std.specs.List.Sorted.{IsStrictlyIncreasing};
@@ -21,9 +21,9 @@ use std::alloc::{AllocError, Global};
 
 /// All that one peer is owed.
 ///
-/// Each call is logarithmic in what is owed; `release` for each debt that it moves, and `shed` for each that there is
-/// room for among the notes that pend, whatever exceeds the limit; `flush` is linear in what pends, `open` and `list`
-/// are linear.
+/// Each call is logarithmic in what is owed: `release` for each debt that it moves, and `shed` for each that there is
+/// room for among the notes that pend, however much exceeds the limit. `flush` is linear in what pends; `open` and
+/// `list` are linear.
 #[derive(Drop)]
 pub struct Station<D: Disk> {
     pub(crate) alloc: Global,
@@ -70,8 +70,8 @@ impl<D: Disk> Station<D> {
     /// Opens the station of two disks, empty ones among them: all that its tape owes is ready.
     ///
     /// # Errors
-    /// The tape's: `Damaged`, `Disk`, `NoMemory`; then `NoMemory` of the station. The disks are handed back: as they
-    /// were where they are `Damaged`, and with the tape's end repaired where the station was refused memory.
+    /// The tape's: `Damaged`, `Disk`, `NoMemory`; then `NoMemory` of the station. The disks are handed back: unchanged
+    /// if they are `Damaged`, and with the tape's end repaired if the station was refused memory.
     pub fn open(alloc: Global, a: D, b: D, limits: Limits) -> Result<Station<D>, RefusedTape<D>>
         // Whatever a stop left of a history is opened.
         ensures recovers { (h : History) → D.honest a → D.honest b
@@ -164,7 +164,7 @@ impl<D: Disk> Station<D> {
         self.owe_new(Key::new(source, number), token, id)
     }
 
-    /// Closes the source that is open, and gives it: the next one is open from now on.
+    /// Closes the source that is open, and returns its number: the next one is open from now on.
     ///
     /// # Errors
     /// Nothing changes. Tried in this order: `Broken`; `Tape(Note(CountFull))` if it is the last source;
@@ -186,7 +186,7 @@ impl<D: Disk> Station<D> {
     /// holds it. Its texts are read back from the tape, unless its note pends.
     ///
     /// # Errors
-    /// Tried in this order: `Broken`; `NoMemory`; `Tape(Disk)`, where the reading failed, or gave another note than was
+    /// Tried in this order: `Broken`; `NoMemory`; `Tape(Disk)`, if the read failed or returned another note than was
     /// put there, which an honest disk never does. The debt keeps its place, and the station works on.
     pub fn claim(&mut self, connection: CxnId, now: u64) -> Result<Option<Debt>, StationFault>
         ensures none { IfOk result
@@ -244,10 +244,10 @@ impl<D: Disk> Station<D> {
         }
     }
 
-    /// Has a deferred debt wait until 60 seconds after `now`, or drops it where the limits say so.
+    /// Makes a deferred debt wait until 60 seconds after `now`, or drops it if the limits say so.
     ///
     /// # Errors
-    /// The deferral is handed back. Tried in this order: `Broken`; `NotHeld`; where it is dropped `Tape(PendingFull)`,
+    /// The deferral is handed back. Tried in this order: `Broken`; `NotHeld`; if it is dropped `Tape(PendingFull)`,
     /// `NoMemory`.
     pub fn defer(
         &mut self,
@@ -320,7 +320,7 @@ impl<D: Disk> Station<D> {
         }
     }
 
-    /// Takes a debt back, and has it wait until this moment; until 0 is no wait: it is ready. Takes no memory, and
+    /// Takes a debt back, and makes it wait until this moment; until 0 is no wait: it is ready. Takes no memory, and
     /// makes no note.
     ///
     /// # Errors
@@ -350,11 +350,11 @@ impl<D: Disk> Station<D> {
         Ok(())
     }
 
-    /// Takes what a connection tells of a debt that it held: a final answer settles it, a deferral has it wait or drops
-    /// it, where the article can't be sent it is dropped, and where it came back it is ready.
+    /// Takes a connection's outcome of a debt that it held: a final answer settles it, a deferral makes it wait or
+    /// drops it, a debt whose article can't be sent is dropped, and one that came back is ready.
     ///
     /// # Errors
-    /// The outcome is handed back. Tried in this order: `Broken`; `NotHeld`; where the debt ends `Tape(PendingFull)`,
+    /// The outcome is handed back. Tried in this order: `Broken`; `NotHeld`; if the debt ends `Tape(PendingFull)`,
     /// `NoMemory`.
     pub fn finish(
         &mut self,
@@ -382,19 +382,20 @@ impl<D: Disk> Station<D> {
         }
     }
 
-    /// Makes all that this connection held ready, and counts it. Takes no memory. A broken station answers too.
+    /// Makes all debts ready that this connection held, and returns how many. Takes no memory. A broken station
+    /// answers too.
     pub fn release(&mut self, connection: CxnId) -> u64
         ensures count { result ≡ held_count connection.0 (places_of self.old) }
         ensures places { places_of self.new ≡ released connection.0 (places_of self.old) }
         ensures tape { IsSameTape self.old self.new }
     {
-        // No more are held than are owed, so that the count fits.
+        // No more are held than are owed, so the count fits.
         let _totals = self.tape.totals();
         self.index.release(connection)
     }
 
-    /// Drops, oldest first, what exceeds the backlog's limit, as far as there is room among the notes that pend. All of
-    /// it is dropped, or on a refusal nothing. It gathers one key more than there is room for at most.
+    /// Drops, oldest first, what exceeds the backlog's limit, as far as there is room among the notes that pend. On a
+    /// refusal nothing is dropped. It gathers at most one key more than there is room for.
     ///
     /// # Errors
     /// Tried in this order: `Broken`; `NoMemory`.
@@ -422,7 +423,7 @@ impl<D: Disk> Station<D> {
         Ok(Shed { keys, more })
     }
 
-    // Notes what is owed anew, and makes it ready.
+    // Notes a debt that is newly owed, and makes it ready.
     fn owe_new(&mut self, key: Key, token: &Token, id: &MsgId) -> Result<Owed, StationFault>
         requires works { IsBroken self.old → ⊥ }
         requires next { IsNext (marks_of (ledger_of self.old)) key }
@@ -473,7 +474,7 @@ impl<D: Disk> Station<D> {
         }
     }
 
-    // Makes this of a debt that this connection holds.
+    // Does to a debt that this connection holds what its outcome says.
     fn settle_as(
         &mut self,
         connection: CxnId,
@@ -525,7 +526,7 @@ impl<D: Disk> Station<D> {
             ⊎ (e ≡ StationFault.NoMemory)) }
         ensures unchanged { OnErr result (IsSame self.old self.new) }
     {
-        // What was taken is a sum with what has ended, so that no count passes the greatest number.
+        // What was taken is a sum with what has ended, so no count passes the greatest number.
         let _totals = self.tape.totals();
         if let Err((_, fault)) = self.tape.note(note) {
             return Err(station_fault(fault));
@@ -534,7 +535,7 @@ impl<D: Disk> Station<D> {
         Ok(())
     }
 
-    // Has a debt that this connection holds wait for this.
+    // Makes a debt that this connection holds wait for this.
     fn give_up(&mut self, connection: CxnId, key: Key, wait: Wait)
         requires { IsHeldBy (places_of self.old) connection.0 key }
         ensures tape { IsSameTape self.old self.new }
@@ -551,7 +552,7 @@ impl<D: Disk> Station<D> {
         match key.next() {
             Some(next) => self.index.unheld_from(next),
             None => {
-                // It has 64 bits, so that the last key is above all that are owed.
+                // It has 64 bits, so the last key is above all that are owed.
                 let _import_mark = self.tape.import_mark();
                 let _closed = self.tape.closed();
                 None
@@ -559,7 +560,7 @@ impl<D: Disk> Station<D> {
         }
     }
 
-    // The keys to shed, oldest first, or the first of them: one more than there is room for at most.
+    // The keys to shed, oldest first: at most one more than there is room for.
     fn shed_set(&self, room: usize) -> Result<Vec<Key>, AllocError>
         ensures set { IfOk result (λ found. (set : List ℕ)
             × IsShedSet (limits_of self.now) (ledger_of self.now) (places_of self.now) set
@@ -584,9 +585,8 @@ impl<D: Disk> Station<D> {
         Ok(set)
     }
 
-    /// Puts the notes that pend on the disk: from `Ok` on all notes are acknowledged. Answers how many notes of this
-    /// opening are acknowledged now, or the greatest u64 where that is less; the answer names no place. Linear in what
-    /// pends.
+    /// Puts the notes that pend on the disk: from `Ok` on all notes are acknowledged. Returns how many notes of this
+    /// opening are acknowledged now, at most the greatest u64; the answer names no place. Linear in what pends.
     ///
     /// # Errors
     /// Tried in this order: `Broken`; `Tape(TapeFull)`; `NoMemory`; these change nothing. `Tape(Disk)`: the station is
@@ -617,7 +617,7 @@ impl<D: Disk> Station<D> {
     }
 
     /// Writes what is owed into the segment of its tape that doesn't live, which lives from then on: from `Ok` on all
-    /// notes are acknowledged, and none pends. Answers the new generation. Linear in what is owed.
+    /// notes are acknowledged, and none pends. Returns the new generation. Linear in what is owed.
     ///
     /// # Errors
     /// Tried in this order: `Broken`; `Tape(GenerationFull)`; `Tape(TapeFull)`; `NoMemory`; these change nothing.
@@ -639,10 +639,10 @@ impl<D: Disk> Station<D> {
         }
     }
 
-    /// The debt of this key, where it is owed. Its texts are read back from the tape, unless its note pends.
+    /// The debt of this key, if it is owed. Its texts are read back from the tape, unless its note pends.
     ///
     /// # Errors
-    /// Tried in this order: `Broken`; `NoMemory`; `Tape(Disk)`, where the reading failed, or gave another note than was
+    /// Tried in this order: `Broken`; `NoMemory`; `Tape(Disk)`, if the read failed or returned another note than was
     /// put there, which an honest disk never does. The station works on.
     pub fn debt(&mut self, key: Key) -> Result<Option<Debt>, StationFault>
         // It is the debt that was noted.
@@ -668,7 +668,7 @@ impl<D: Disk> Station<D> {
     /// The keys that are owed, rising. A broken station answers too.
     ///
     /// # Errors
-    /// `NoMemory` where memory was refused.
+    /// `NoMemory` if memory was refused.
     pub fn list(&self) -> Result<Vec<Key>, AllocError>
         ensures items { IfOk result (λ v. v.items ≡ keys (ledger_of self.now)) }
         ensures rising { IfOk result (λ v. IsStrictlyIncreasing v.items) }
@@ -741,7 +741,7 @@ impl<D: Disk> Station<D> {
     }
 }
 
-// The index in which all that a tape owes is ready.
+// The index in which every debt of a tape is ready.
 fn index_of<D: Disk>(alloc: Global, tape: &Tape<D>) -> Result<PlaceIndex, AllocError>
     ensures places { IfOk result (λ index. index ≡ all_ready (keys (tape_ledger tape.now))) }
 {

@@ -2,7 +2,7 @@
 ghost use Rattle.std.specs.Prelude.{◌≡◌};
 ghost use Rattle.peer_queue.specs.Index.{due_at};
 
-/// What a debt waits for that no connection holds.
+/// What a debt waits for, if no connection holds it.
 #[derive(Clone, Copy)]
 pub(crate) enum Wait {
     /// Nothing: it is ready.
@@ -12,7 +12,7 @@ pub(crate) enum Wait {
 }
 
 impl Wait {
-    // The moment from which on it may be claimed. 0 tells that it is ready, since no debt is later until then.
+    // The moment from which on it may be claimed. 0 stands for ready, since no debt waits until moment 0.
     pub(crate) fn due_at(self) -> u64
         ensures { result ≡ due_at self }
     {
