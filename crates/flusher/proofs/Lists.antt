@@ -41,7 +41,7 @@ at_moved f h [] left x all is = ap (λ cs. slice_get cs 0) (sym is)
 at_moved f h (y ∷ ys) left x all is =
     ap (λ cs. slice_get cs (length (y ∷ ys))) (sym is) ∙ at_moved f h ys left x (map h ys ++ map f (x ∷ left)) refl
 
--- what is left behind so many items begins with the next one
+-- what is left after N items begins with the next one
 pub at_drop : {A : Type 0} (xs ys : List A) (k : ℕ) (x : A) → drop k xs ≡ x ∷ ys → slice_get xs k ≡ Some x
 at_drop xs ys zero x is = ap (λ l. slice_get l 0) is
 at_drop [] ys (suc k) x is = absurd (omega (arith, ap length is))
@@ -53,6 +53,6 @@ drop_suc (z ∷ zs) ys zero x is = cc
 drop_suc [] ys (suc k) x is = absurd (omega (arith, ap length is))
 drop_suc (z ∷ zs) ys (suc k) x is = drop_suc zs ys k x is
 
--- and behind that one the rest is left
+-- and after that one the rest is left
 pub drop_next : {A : Type 0} (xs ys : List A) (k : ℕ) (x : A) → drop k xs ≡ x ∷ ys → drop (k + 1) xs ≡ ys
 drop_next xs ys k x is = ap (λ n. drop n xs) (add-one k) ∙ drop_suc xs ys k x is

@@ -1,4 +1,4 @@
--- What lies behind a lock of a peer is of the peer's queue.
+-- What a peer's lock keeps is of that peer's queue.
 use Rattle.std.proofs.Common.{◌≡◌, ◌<◌, ℕ, List, length, map, get_or, refl, sym, ap, ◌∙◌}
 use Rattle.std.specs.Prelude.{slice_get}
 use Rattle.std.specs.Option.{option_map}

@@ -79,7 +79,7 @@ impl<N: Naming> Flusher<N> {
         post.rotate_all(rt)
     }
 
-    // Answers the orders until it is told to end.
+    // Serves the orders until it is told to end.
     fn flush_on<D: Disk, R: Wait + Clock + Log, P: Pace>(
         &mut self,
         rt: &R,

@@ -1,4 +1,4 @@
-// What the threads of a run tell one another.
+// How the threads of a run signal to one another.
 use crate::Receipt;
 use std::sync::atomic::{AtomicBool, AtomicU64, Ordering};
 use std::sync::{Mutex, Wait};
@@ -7,7 +7,7 @@ use std::time::Duration;
 // The longest time without a flush, in seconds.
 const PERIOD: u64 = 1;
 
-/// What the threads of a run tell one another: orders of a flush, what came of them, and that the end is near.
+/// The signals between the threads of a run: orders of a flush, what came of them, and that the end is near.
 ///
 /// One value serves one run, and all of its threads share it.
 #[derive(Drop)]

@@ -87,7 +87,7 @@ pub fn run_feeders<
     run_with_intake(rt, post, signals, first, second, &mut NoIntake, pace)
 }
 
-// In the place of an intake, where there is none.
+// Stands in for the intake if there is none.
 #[derive(Drop)]
 struct NoIntake;
 

@@ -32,7 +32,7 @@ due_tail x xs n d rising is =
     let above : x.0 < n = above_at x.0 n xs rising.0 (subst IsSome (sym is) refl) in
     ap (λ (b : Bool). cond b (Some x.1) (due_of xs n)) (ne_eqb x.0 n (omega arith)) ∙ is
 
--- where none is held and none is due now, each waits
+-- if none is held and none is due now, each waits
 pub are_later : (h : Holders) (agenda : Waiting) (now : ℕ) → IsRising agenda
     → ((n : ℕ) → due_of agenda n ≡ Some None → ⊥) → ((n : ℕ) → IsDue agenda now n → ⊥)
     → AreLater (places_by h agenda)
@@ -44,7 +44,7 @@ are_later h (x ∷ xs) now rising held ready =
     (are_later h xs now rising.1 (λ n is. held n (due_tail x xs n None rising is))
     (λ n due. ready n (in_tail now n x xs rising due)))
 
--- where each waits, this one does
+-- if each waits, this one does
 pub later_at : (h : Holders) (agenda : Waiting) (n : ℕ) (d : Option ℕ) → AreLater (places_by h agenda)
     → due_of agenda n ≡ Some d → IsLater (place_by (h n) d)
 later_at h [] n d all is = cc
@@ -77,14 +77,14 @@ pub none_due : (h : Holders) (agenda : Waiting) (now n : ℕ) → now ≡ due_at
 none_due h agenda now n ready all due =
     at_once due.0 (subst (λ (m : ℕ). due.0 ≤ m) ready due.2) (later_at h agenda n (Some due.0) all due.1)
 
--- ---- what the two tests tell
+-- ---- what the two tests find
 
 lookup_empty : {K X : Type 0} (test : K → Bool) (entries : List (K × X)) → (0 < length entries → ⊥)
     → lookup test entries ≡ None
 lookup_empty test [] empty = refl
 lookup_empty test (e ∷ entries) empty = absurd (empty (omega arith))
 
--- where no number has a holder, none is held
+-- if no number has a holder, none is held
 pub none_in : (holders : BTreeMap ℕ ℕ) (n : ℕ) → (IsSome {T = ℕ × ℕ} None ↔ (0 < btree_map_len holders))
     → IsSome (get nat_cmp holders n) → ⊥
 none_in holders n empty held =
@@ -93,7 +93,7 @@ none_in holders n empty held =
     let some : IsSome {T = ℕ} None = subst IsSome gone held in
     cc
 
--- where the least that is due is none exactly if this holds, so it is told
+-- if there is no least one that is due exactly if this holds, the test says so
 pub told : {A : Type 0} (r : Option ℕ) (b : Bool) (P : ℕ → Type 0) (N : Type 0) → is_some r ≡ not b → IfSome r P
     → IfNone r N → (N → A) → (A → (n : ℕ) → P n → ⊥) → IsTrue b ↔ A
 told (Some n) true P N is some none up down = absurd (cc)

@@ -129,7 +129,7 @@ pub room_same : {A E : Type 0} (result : Result A E) (old mid new : Outbox) → 
 room_same (Ok a) old mid new one two = tt
 room_same (Err e) old mid new one two = same_twice old mid new one two
 
--- the drops of the first so many, and one more
+-- the drops of the first N, and one more
 pub drops_prefix : (cause : Cause) (ns : List ℕ) (i n : ℕ) → i < length ns → n ≡ get_or ns i n
     → drops cause (take (i + 1) ns) ≡ drops cause (take i ns) ++ Drop n cause ∷ []
 drops_prefix cause [] i n inside is = absurd (omega arith)

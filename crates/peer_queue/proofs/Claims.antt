@@ -43,7 +43,7 @@ missing_step n debt debts false e rest is has = elim (Contains-append_cases (deb
     only : (x y : ℕ) → Contains (x ∷ []) y → x ≡ y
     only x y (k, inside, at) = let first : k ≡ 0 = omega (arith, inside) in subst (λ (j : ℕ). get_or (x ∷ []) j y ≡ y) first at
 
--- where none is found, the number is not owed
+-- if none is found, the number is not owed
 pub missing_debt : (n : ℕ) (debts : List Owing) → find (λ (owing : Owing). owing.0 == n) debts ≡ None → Contains (keys_in debts) n → ⊥
 missing_debt n [] is (k, inside, at) = omega (arith, inside)
 missing_debt n (debt ∷ debts) is has = missing_step n debt debts (debt.0 == n) refl (λ none there. missing_debt n debts none there) is has

@@ -103,7 +103,7 @@ end_err IsBroken Overflows IsLegal IsSame pending fault told tells broken counts
 
 -- ---- of a station
 
--- the open source is closed where it is not the last
+-- the open source is closed if it is not the last
 legal_close : (state : State) → (Overflows state (Closed (state.closed + 1)) → ⊥)
     → IsLegal state (Closed (state.closed + 1))
 legal_close state fits = elim (cases_lt (state.closed + 1 + 1) (2 ^ 32)) [
@@ -162,7 +162,7 @@ front_err old new note fault told tells closes refusal same =
     (λ other e. ((is.refused other).0 e).1))
     (fits_close shape) (λ over fits. overflows-fits shape closing_note over fits) same
 
--- and where none was
+-- and if none was
 pub front_ok : (old new : Front) (note : Note) (source : ℕ) → note ≡ front_closing old
     → ((cause : LedgerFault) → (IsBrokenFront old → ⊥) × RefusesByShape (front_shape old) note cause → ⊥)
     → (IsBrokenFront old → ⊥)

@@ -1,4 +1,4 @@
--- The first of what is to be shed, and all of it behind them.
+-- A prefix of what is to be shed, and all that comes after it.
 use Rattle.std.proofs.Common.{◌≡◌, ℕ, zero, suc, ◌+◌, ◌-◌, ◌<◌, ◌≤◌, Option, None, List, length, take}
 use Rattle.std.proofs.Common.{refl, sym, ap, ◌∙◌, subst, inl, inr, arith}
 use Rattle.std.specs.Prelude.{◌⊎◌, min, nat_lt}
@@ -12,7 +12,7 @@ use Rattle.peer_queue.specs.declared.limits.Limits.{Limits}
 use Rattle.peer_queue.specs.declared.limits.Shed.{Shed}
 use Rattle.peer_queue.proofs.Sheds.{IsPrefix, prefix_all}
 
--- Where no front of fewer than k passes, the shortest has k or more: by induction over those behind the k first.
+-- If no prefix of fewer than k passes, the shortest has k or more: by induction over what comes after the first k.
 extended : (Passes : List ℕ → Type 0) → ((l : List ℕ) → Passes l ⊎ (Passes l → ⊥)) → (l : List ℕ) (rest k : ℕ)
     → k + rest ≡ length l → ((fewer : ℕ) → fewer < k → Passes (take fewer l) → ⊥)
     → (set : List ℕ) × IsShortestPrefix Passes l set × (k ≤ length set)
@@ -81,7 +81,7 @@ prefix_begins limits all octets_without places prefix next owed over is = (
         (λ fewer less passes. omega (arith, is.shortest fewer less, passes))
 
 -- What was found is what is to be shed, as far as one more than there is room for: none comes next, enough is shed, or
--- it is so many.
+-- it has this length.
 pub prefix_cut : (limits : Limits) (all : ℕ) (octets_without : List ℕ → ℕ) (places : Places) (prefix : List ℕ)
     (next : Option ℕ) (owed room : ℕ)
     → (AreWithin limits all → ⊥) → IsPrefix limits.backlog_limit octets_without places prefix next owed
@@ -104,7 +104,7 @@ prefix_cut limits all octets_without places prefix next owed room over is few en
 pub cut_again : (room : ℕ) (found set : List ℕ) → found ≡ take (room + 1) set → take room found ≡ take room set
 cut_again room found set is = ap (λ (l : List ℕ). take room l) is ∙ take-take room (room + 1) set (omega arith)
 
--- what is shed of what was found, where there is so much room
+-- what is shed of what was found, given the room
 pub cut_shed : (IsSet : List ℕ → Type 0) (pending room : ℕ) (found : List ℕ) → {shed : Shed}
     → room + pending ≡ most_pending → (set : List ℕ) × IsSet set × (found ≡ take (room + 1) set)
     → shed.keys.items ≡ take room found → shed.more ≡ nat_lt room (length found)

@@ -45,7 +45,7 @@ held_owed p state c n same held = subst (λ (l : List ℕ). Contains l n) same (
 some_owed : (debts : List Owing) (n : ℕ) → Contains (keys_in debts) n → 0 < length debts
 some_owed debts n has = omega (arith, has.1, length-map debts (λ (debt : Owing). debt.0))
 
--- where a debt is owed, less than all that was taken has ended
+-- if a debt is owed, less than all that was taken has ended
 pub end_legal : (state : State) (note : Note) (n : ℕ) → IsEnd note n → IsOwed state n → state.taken ≡ length state.debts + state.answered + state.dropped → state.taken < 2 ^ 64 → IsLegal state note
 end_legal state (Owe other token id) n end owed sum fits = absurd end
 end_legal state (Final other code) n end owed sum fits = (subst (λ (m : ℕ). IsOwed state m) (sym end) owed, omega (arith, sum, fits, some_owed state.debts n owed))
@@ -53,7 +53,7 @@ end_legal state (Drop other cause) n end owed sum fits = (subst (λ (m : ℕ). I
 end_legal state (Seen other) n end owed sum fits = absurd end
 end_legal state (Closed source) n end owed sum fits = absurd end
 
--- by what is counted where a connection holds the debt
+-- by what is counted if a connection holds the debt
 pub held_legal : (p : Places) (state : State) (note : Note) (c n : ℕ) (totals : Totals) → IsEnd note n → placed p ≡ keys state → IsHeldBy p c n → totals ≡ totals_of state → totals.taken ≡ totals.owed + totals.answered + totals.dropped → totals.taken < 2 ^ 64 → IsLegal state note
 held_legal p state note c n totals end same held counts sum fits =
     let both : (state.taken ≡ length state.debts + state.answered + state.dropped) × (state.taken < 2 ^ 64) =
@@ -81,7 +81,7 @@ end_kind state note NoTapeMemory legal kind works refused = inr refl
 end_kind state note (RefusedNote cause) legal kind works refused =
     absurd (none_refused state note cause legal (refused cause refl))
 
--- a station tells of no room where its tape does
+-- a station reports no room if its tape does
 told_full : (fault : TapeFault) → station_fault fault ≡ TapeRefused PendingFull → fault ≡ PendingFull
 told_full (Damaged segment at) told = absurd (cc)
 told_full Disk told = absurd (cc)
@@ -92,7 +92,7 @@ told_full PendingFull told = refl
 told_full NoTapeMemory told = absurd (cc)
 told_full (RefusedNote cause) told = absurd (cc)
 
--- where a legal note ends a debt, a station that works tells of no room exactly where its tape does
+-- if a legal note ends a debt, a station that works reports no room exactly if its tape does
 pub full_iff : {Works Legal Full : Type 0} (fault : TapeFault) (told : StationFault) → told ≡ station_fault fault
     → Works → Legal → (fault ≡ PendingFull) ↔ (Works × Legal × Full)
     → (IsErrOf {T = Unit {0}} (Err told) (TapeRefused PendingFull)) ↔ Full

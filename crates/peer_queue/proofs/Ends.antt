@@ -1,4 +1,4 @@
--- The numbers that have a place, and the ledger's, where one changes.
+-- The numbers that have a place, and the ledger's, when one changes.
 use Rattle.std.proofs.Common.{◌≡◌, ◌==◌, ℕ, Bool, true, false, cond, not, List, [], ◌∷◌, refl, sym, ap, ◌∙◌}
 use Rattle.std.specs.Prelude.{filter}
 use Rattle.std.proofs.lemmas.Bool.{eqb-true}

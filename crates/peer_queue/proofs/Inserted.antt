@@ -19,7 +19,7 @@ same_key m n same = grind (arith, nat_tests)
 apart_key : (m n : ℕ) → nat_cmp m n ≡ Greater → n ≡ m → ⊥
 apart_key m n greater same = grind (arith, nat_tests)
 
--- the places with this one put in, where the key compares so with that of the first
+-- the places with this one inserted, given how the key compares with that of the first
 abbrev inserted : Ordering → ℕ → DebtPlace → ℕ × DebtPlace → Places → Places
 inserted order n x e p = match_ordering order ((n, x) ∷ e ∷ p) ((e.0, x) ∷ p) (e ∷ with_place p n x)
 

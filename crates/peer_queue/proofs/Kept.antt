@@ -1,4 +1,4 @@
--- What an index keeps, where a number is held or given up.
+-- What an index keeps when a number is held or given up.
 use Rattle.std.proofs.Common.{◌≡◌, ◌==◌, ◌^◌, ℕ, zero, suc, ◌<◌, ◌≤◌, Bool, true, false, cond, Option, Some, None, [], ◌∷◌, refl, sym, ap, ◌∙◌, subst, arith}
 use Rattle.std.specs.Prelude.{◌↔◌, IsSome, option_map, Result, Ok, Err, OnOk, OnErr}
 use Rattle.std.specs.Result.{is_err}
@@ -118,7 +118,7 @@ split_false : {P : Type 0} (b c : Bool) → (b ≡ false → c ≡ true → P) �
 split_false true c f e = cc
 split_false false c f e = f refl e
 
--- where a number is due at no moment exactly if one holds it, it is so of each, if it was so of the others
+-- if a number is due at no moment exactly if one holds it, that is so of each, if it was so of the others
 held_all : (agenda agenda' : Waiting) (h h' : Holders) (k : ℕ → ℕ → Bool) (n : ℕ) → IsKept agenda h k
     → ((m : ℕ) → (m ≡ n → ⊥) → due_of agenda' m ≡ due_of agenda m) → ((m : ℕ) → (m ≡ n → ⊥) → h' m ≡ h m)
     → (due_of agenda' n ≡ Some None) ↔ IsSome (h' n)
@@ -206,7 +206,7 @@ kept_free agenda agenda' h k n kept rising dues nobody due fits = record {
       (λ apart. kept.moments m t (sym (dues m apart) ∙ e));
 }
 
--- the same is told by pairs that are the same
+-- pairs that are the same say the same
 pub kept_same : (agenda : Waiting) (h h' : Holders) (k k' : ℕ → ℕ → Bool) → IsKept agenda h k → ((m : ℕ) → h' m ≡ h m) → ((b m : ℕ) → k' b m ≡ k b m) → IsKept agenda h' k'
 kept_same agenda h h' k k' kept others pairs = record {
   rising = kept.rising;

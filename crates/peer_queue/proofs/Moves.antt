@@ -1,4 +1,4 @@
--- The places of an index, where its numbers change.
+-- The places of an index when its numbers change.
 use Rattle.std.proofs.Common.{◌≡◌, ◌==◌, ◌⊎◌, inl, inr, ℕ, zero, suc, ◌<◌, ◌≤◌, Bool, true, false, cond, Option, Some, None, [], ◌∷◌, refl, sym, ap, ◌∙◌, subst, arith}
 use Rattle.std.specs.Prelude.{IfNone, IfSome, IsSome, option_map, find, Result, Ok, Err, OnOk}
 use Rattle.std.specs.Ordering.{match_ordering, nat_cmp}
@@ -13,7 +13,7 @@ use Rattle.peer_queue.specs.Index.{Holders, due_at, place_by, place_for, places_
 use Rattle.peer_queue.specs.declared.wait.Wait.{Wait}
 use Rattle.peer_queue.specs.declared.wait.Wait.TheVariants.{Ready as ReadyNow, Until}
 
--- the moment that a wait is due at tells the place for it
+-- the moment at which a wait is due gives the place for it
 due_place : (wait : Wait) → place_for (Until (due_at wait)) ≡ place_for wait
 due_place ReadyNow = refl
 due_place (Until moment) = refl
@@ -123,7 +123,7 @@ in_tail now n x xs rising due =
 pub at_head : (now : ℕ) (x : ℕ × Option ℕ) (xs : Waiting) (d : ℕ) → x.1 ≡ Some d → d ≤ now → IsDue (x ∷ xs) now x.0
 at_head now x xs d is h = (d, ap (λ (b : Bool). cond b (Some x.1) (due_of xs x.0)) (eq-eqb x.0 x.0 refl) ∙ ap Some is, h)
 
--- due at the head or behind it
+-- due at the head or after it
 pub due_cases : (now n : ℕ) (x : ℕ × Option ℕ) (xs : Waiting) → IsDue (x ∷ xs) now n → ((x.0 ≡ n) × ((d : ℕ) × (x.1 ≡ Some d) × (d ≤ now))) ⊎ IsDue xs now n
 due_cases now n x xs due = on (x.0 == n) refl due.1
   where

@@ -190,7 +190,7 @@ none_owed marks = λ k d within. absurd (omega arith)
 
 -- ---- in an outbox
 
--- the note that owes a debt stands where its ordinal says
+-- the note that owes a debt is at the index that its ordinal gives
 pub stands_at : (outbox : Outbox) (key ordinal at : ℕ) → ordinal_at (ordinals_in outbox.outline) key ≡ Some ordinal
     → OwesAt (notes_in outbox) at key → outbox.settled + length (unsettled_in outbox) < 2 ^ 64
     → ordinal ≡ outbox.settled - outbox.lying + at + 1
@@ -206,7 +206,7 @@ get_or_same [] i d e inside = absurd (omega arith)
 get_or_same (note ∷ notes) zero d e inside = refl
 get_or_same (note ∷ notes) (suc i) d e inside = get_or_same notes i d e (omega (arith, inside))
 
--- the texts that a note has, where it stands where the note has to stand that owes the debt
+-- the texts of a note, if it is at the index of the note that owes the debt
 pub texts : {E : Type 0} (outbox : Outbox) (key index : ℕ) (note : Note) (result : Result (Option Owing) E)
     → IsSized (box_shape outbox) key
     → ((at : ℕ) → OwesAt (notes_in outbox) at key → outbox.settled + length (unsettled_in outbox) < 2 ^ 64 → at ≡ index)

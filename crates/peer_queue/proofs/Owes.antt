@@ -1,4 +1,4 @@
--- Places and the ledger, where a debt is owed anew, and where one may be claimed.
+-- Places and the ledger, when a debt is newly owed, and when one may be claimed.
 use Rattle.std.proofs.Common.{◌≡◌, ℕ, ◌+◌, ◌<◌, ◌^◌, List, [], ◌∷◌, None}
 use Rattle.std.proofs.Common.{refl, inl, inr, sym, ap, subst, arith}
 use Rattle.std.specs.List.{All}
@@ -18,7 +18,7 @@ use Rattle.peer_queue.specs.declared.fault.StationFault.TheVariants.{Tape as Tap
 use Rattle.peer_queue.specs.DebtPlace.{Places, Ready, all_ready, place_at, placed, with_place}
 use Rattle.peer_queue.proofs.Inserted.{absent_of, same_with}
 
--- all of these have a place where all of them are ready
+-- all of these have a place if all of them are ready
 pub placed-all_ready : (ns : List ℕ) → placed (all_ready ns) ≡ ns
 placed-all_ready [] = refl
 placed-all_ready (n ∷ ns) = ap (λ (l : List ℕ). n ∷ l) (placed-all_ready ns)
@@ -34,7 +34,7 @@ pub import_next : (marks : Marks) (n : ℕ) → n < 2 ^ 64 → marks.import_mark
     → IsNext marks (key_of (marks.closed + 1) n)
 import_next marks n fits above = inr (omega (arith, fits, above), omega (arith, fits))
 
--- has no place yet, where these keys have one
+-- has no place yet, if these keys have one
 pub absent_among : (p : Places) (marks : Marks) (ns : List ℕ) (n : ℕ) → placed p ≡ ns → All (IsPast marks) ns
     → IsNext marks n → place_at p n ≡ None
 absent_among p marks ns n same past next =
@@ -73,7 +73,7 @@ note_fault state note new owed PendingFull kind why = tt
 note_fault state note new owed NoMemory kind why = tt
 note_fault state note new owed (RefusedNote other) kind why = refused_note state note new owed other (why other refl)
 
--- what a station tells as the tape's is the tape's
+-- what a station reports as the tape's is the tape's
 pub told_fault : (fault other : TapeFault) → station_fault fault ≡ TapeRefused other → fault ≡ other
 told_fault (Damaged segment at) other e = cc
 told_fault Disk other e = cc

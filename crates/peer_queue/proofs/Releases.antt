@@ -74,7 +74,7 @@ not_held : (b : Bool) → (b ≡ true → ⊥) → b ≡ false
 not_held true f = absurd (f refl)
 not_held false f = refl
 
--- the place of a number behind the first
+-- the place of a number after the first
 later_at : (c n : ℕ) (e : ℕ × DebtPlace) (p : Places) → AreAbove e.0 p → IsHeldBy p c n → IsHeldBy (e ∷ p) c n
 later_at c n e p above held = ap (λ (b : Bool). cond b (Some e.1) (place_at p n)) (ne_eqb e.0 n (λ same. apart p above (subst (λ (m : ℕ). IsHeldBy p c m) (sym same) held))) ∙ held
   where

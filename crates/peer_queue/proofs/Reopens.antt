@@ -21,7 +21,7 @@ Survives-flushed h octets within is = record {
   tape = is.tape;
 }
 
--- so it is now, where it was so at each moment
+-- it holds now, if it held at each moment
 pub survives_now : (h : History) (old new : Log) → h.kept ≤ length h.notes → TapeLeaves (Survives (flushed h)) old new → EachTape (Survives h) new
 survives_now h old new within moments = λ one other is is'.
     Survives-flushed h (one, other) within (pairs-now (Survives (flushed h)) old new moments one other is is')

@@ -42,7 +42,7 @@ past_outline outline =
     subst (All (IsPast (shape_marks (shape_in outline))))
     (sym (valued-keys (λ (part : ℕ × ℕ). part.1) outline.debts.entries)) outline.past
 
--- ---- a debt that is owed anew
+-- ---- a debt that is newly owed
 
 pub placed_noted : (p : Places) (shape : Shape) (n : ℕ) (token id : List ℕ) → placed p ≡ keys_sized shape.sizes
     → placed (with_place p n Ready) ≡ keys_sized (shape_step shape (Owe n token id)).sizes
@@ -53,7 +53,7 @@ placed_noted p shape n token id same = same_with p shape.sizes n Ready (length t
 some_sized : (sizes : List Size) (n : ℕ) → Contains (keys_sized sizes) n → 0 < length sizes
 some_sized sizes n has = omega (arith, has.1, length-map sizes (λ (size : Size). size.0))
 
--- where a debt is owed, less than all that was taken has ended
+-- if a debt is owed, less than all that was taken has ended
 end_fits : (shape : Shape) (note : Note) (n : ℕ) → IsEnd note n → IsSized shape n
     → shape.taken ≡ length shape.sizes + shape.answered + shape.dropped → shape.taken < 2 ^ 64 → FitsShape shape note
 end_fits shape (Owe other token id) n end owed sum fits = absurd end
@@ -64,7 +64,7 @@ end_fits shape (Drop other cause) n end owed sum fits =
 end_fits shape (Seen other) n end owed sum fits = absurd end
 end_fits shape (Closed source) n end owed sum fits = absurd end
 
--- by what is counted where a connection holds the debt
+-- by what is counted if a connection holds the debt
 pub held_fits : (p : Places) (shape : Shape) (note : Note) (c n : ℕ) (totals : Totals) → IsEnd note n
     → placed p ≡ keys_sized shape.sizes → IsHeldBy p c n → totals ≡ shape_totals shape
     → totals.taken ≡ totals.owed + totals.answered + totals.dropped → totals.taken < 2 ^ 64 → FitsShape shape note
@@ -120,7 +120,7 @@ end_fault shape note (RefusedNote cause) fits kind works refused =
 
 -- ---- what is shed
 
--- where none of these is held, each has a place
+-- if none of these is held, each has a place
 unheld_at : (p : Places) (n : ℕ) → IsUnheld p n → (place : DebtPlace) × (place_at p n ≡ Some place)
 unheld_at p n unheld = on (place_at p n) refl unheld
   where

@@ -59,7 +59,7 @@ module _ {X : Type 0} (key : X → ℕ) (octets : X → ℕ) where
       (stays_other set n d (ne_eqb n (key d) (omega (arith, above.0))))
       ∙ ap (λ (l : List X). cond (stays set d) (d ∷ l) l) (absent debts set n above.1)
 
-  -- the octets of the debt of a number, 0 where there is none
+  -- the octets of the debt of a number, 0 if there is none
   abbrev pub octets_at : List X → ℕ → ℕ
   octets_at debts n = unwrap_or (option_map octets (find (λ (debt : X). key debt == n) debts)) 0
 
@@ -129,7 +129,7 @@ sized_number size = size.0
 abbrev sized_octets : Size → ℕ
 sized_octets size = size.1
 
--- the octets of the debt of a number, 0 where there is none
+-- the octets of the debt of a number, 0 if there is none
 abbrev pub owed_at : State → ℕ → ℕ
 owed_at state n = octets_at number_of octets_of state.debts n
 
@@ -172,7 +172,7 @@ sized_fall shape places set n rising same new =
 
 -- ---- a prefix of the numbers that no connection holds
 
--- These are a prefix of the numbers that no connection holds, after which the candidate comes; without them so many octets are owed, and
+-- These are a prefix of the numbers that no connection holds, after which the candidate comes; without them this many octets are owed, and
 -- without fewer of them more than the limit.
 pub record IsPrefix (limit : ℕ) (octets_without : List ℕ → ℕ) (places : Places) (set : List ℕ) (candidate : Option ℕ)
     (octets : ℕ) : Type 0 where
@@ -219,7 +219,7 @@ prefix_more limit octets_without places set n next owed owed' octets rising is a
       ];
     }
 
--- it is what is to be shed, where none comes next or enough is shed
+-- it is what is to be shed, if none comes next or enough is shed
 pub prefix_all : (limits : Limits) (all : ℕ) (octets_without : List ℕ → ℕ) (places : Places) (set : List ℕ)
     (next : Option ℕ) (owed : ℕ) → (AreWithin limits all → ⊥)
     → IsPrefix limits.backlog_limit octets_without places set next owed
@@ -254,7 +254,7 @@ shed_owed limits state places set k rising same is =
     let prefix = prefix_of limits state places set k is in
     subst (λ (l : List ℕ). AreOwed state [] l) (sym prefix.1) (prefix_owed places state prefix.0 rising same)
 
--- the only fault of a tape that is left, where it works, all are owed and there is room
+-- the only fault left for a tape that works, if all are owed and there is room
 pub drop_fault : (fault : TapeFault) → IsDropFault fault → (fault ≡ BrokenTape → ⊥) → (fault ≡ RefusedNote NotOwed → ⊥) → (fault ≡ PendingFull → ⊥) → station_fault fault ≡ NoMemory
 drop_fault (Damaged segment at) is broken owed room = absurd is
 drop_fault Disk is broken owed room = absurd is

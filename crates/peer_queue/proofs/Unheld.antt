@@ -9,7 +9,7 @@ use Rattle.peer_queue.proofs.Moves.{above_at, at_head, due_cases, in_tail}
 
 -- ---- the first of them
 
--- a number is among them where it has a moment
+-- a number is among them if it has a moment
 with_head : Option ℕ → ℕ → List ℕ → List ℕ
 with_head None n l = l
 with_head (Some d) n l = n ∷ l
