@@ -78,7 +78,7 @@ module _ {D : Type 0} {g : Ghosts D} where
         → ((o : Options) (unread : List ℕ) (h : List Happening) → ConnStands o mid_c.conn unread h
         → ConnStands o new_c.conn unread (noted o h (Sent count)))
         → Followed id now was conn past before new_c peer outputs
-    followed was new_c two three outputs cxn count was_open sending wanted closed own sends needs closes outputs needed
+    followed was new_c two three outputs cxn count was_open sending wanted closed own sends needs closes sent_so needed
         says was_is count_is rank waits same_id sent =
         let o = options_of past.conf in
         let h = out.transcript in
@@ -100,7 +100,7 @@ module _ {D : Type 0} {g : Ghosts D} where
           follows = record { settles = all.some.settles; outputs_are = refl; changed = refl };
           outputs_are = tells_both before one outputs _ _ all.some.outputs_are (tells_both one two outputs _ _
               (subst (λ (l : List ℕ). Tells one (map (SentLine id) (lines_in l)) two) sending_is
-              (subst (λ (n : ℕ). Tells one (map (SentLine n) (lines_in sending)) two) own_id outputs))
+              (subst (λ (n : ℕ). Tells one (map (SentLine n) (lines_in sending)) two) own_id sent_so))
               (tells_both two three outputs _ _
               (subst (λ (w : Option ℕ). Tells two (need_said id w) three) (needs o out.unread h stands_out)
               (subst (λ (n : ℕ). Tells two (need_said n wanted) three) own_id needed))

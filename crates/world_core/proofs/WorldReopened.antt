@@ -30,6 +30,7 @@ use Rattle.world_core.specs.declared.world.Stage.{Stage}
 use Rattle.world_core.specs.declared.world.Stage.TheVariants.{Running, Stopped}
 use Rattle.world_core.specs.declared.world.World.{World}
 use Rattle.world_core.proofs.AcknowledgedLines.{all_at}
+use Rattle.world_core.proofs.TapesStopped.{left_sound, lines_left}
 use Rattle.world_core.proofs.WorldStopped.{left_free, tied_none}
 use Rattle.world_core.proofs.RelatedLists.{zip_equal, zip_map}
 
@@ -53,6 +54,30 @@ peers_again pasts peers all =
       conf = is.conf;
       disks = disks_again _ _ past.tape peer.disks (λ state keeps. keeps) is.disks;
     }) pasts peers all
+
+stage_again : (life : Life) (stage : Stage) → life.running ≡ false → StageStands life stage
+    → StageStands (with_past life (left AtRest life.past)) stage
+stage_again life (Running stations conns) stopped stands = absurd (let runs = stands.0 in cc)
+stage_again life (Stopped peers intake) stopped stands = (
+  stopped,
+  peers_again life.past.peers peers.items stands.1,
+  disks_again _ _ life.past.intake intake (lines_left AtRest life.past.intake.history life.past.peers) stands.2,
+  refl,
+)
+
+stands_again : (world : World) (life : Life) → WorldStands world life → life.running ≡ false
+    → WorldStands world (with_past life (left AtRest life.past))
+stands_again world life stands stopped = record {
+  stage = stage_again life world.stage stopped stands.stage;
+  armed = stands.armed;
+  connected = stands.connected;
+  now = stands.now;
+  sound = record {
+    past = left_sound AtRest life.past stands.sound.past;
+    conns = tied_none (with_past life (left AtRest life.past)) (stands.sound.conns.none stopped)
+        (left_free AtRest life.past.peers);
+  };
+}
 
 -- ---- before any opening
 
