@@ -1,118 +1,49 @@
 #!/usr/bin/env bash
-# feed.sh [ARTICLES [RUNS]]: articles a second at a peer in memory (bench/sink.c, built by cc), by size and connections,
-# each the best of so many runs (2): from a backlog (-x), and from a funnel with its durable flushes. Where Debian's
-# inn2 is installed INN's innfeed works off the same articles from a backlog file in the same run, and the ratios are
-# ours to its; elsewhere the articles a second stand alone. Beside them the time of an fdatasync in the same minute.
-# Then, from a backlog: the processor time an article, ours to INN's; the part of the window that is used at a peer
-# whose answers take 20 ms; and, where strace is there, the system calls an article.
+# feed.sh [ARTICLES [RUNS [PART ..]]]: how fast articles (20,000; of 32 KiB a quarter as many) get to a peer in memory
+# (bench/sink.c, built by cc). The parts are, all of them if none is named:
+#   rates: articles a second between the peer's first and its last, of 1, 4 and 32 KiB over 1, 2 and 4 connections, each
+#     the best of so many runs (2): from a backlog (-x), and from a funnel with its durable flushes. Where Debian's inn2
+#     is installed INN's innfeed works off the same articles from a backlog file in the same run, and the ratios are ours
+#     to its; elsewhere the articles a second stand alone. Beside them the time of an fdatasync in the same minute;
+#   before: the same without INN's, if $BEFORE names another checkout of this repository, in which the program is built:
+#     both run by turns, and it is printed how many times its articles a second ours are (aim: nowhere below 0.95, of
+#     the best of five runs), and how many times its processor time an article;
+#   costs: from a backlog, the processor time an article, ours to INN's; and, where strace is there, the system calls an
+#     article;
+#   late: from a backlog, the part of the window that is used at a peer whose answers take 20 ms.
+#
+# Other programs that run at the same time move these. It fails on none.
 . "$(dirname "$(readlink -f "${BASH_SOURCE[0]}")")/lib.sh"
+[ -z "${BEFORE-}" ] || built "$BEFORE" innfeed
 build innfeed
-articles=${1:-20000} runs=${2:-2}
-ours=$top/crates/innfeed/out/innfeed inn=/usr/lib/news/bin/innfeed
+most=${1:-20000} runs=${2:-2} parts=("${@:3}")
+[ ${#parts[@]} -gt 0 ] || parts=(rates before costs late)
+ours=$top/crates/innfeed/out/innfeed
 run=$(mktemp -d)
 trap 'kill $(jobs -p) 2>/dev/null || true; rm -rf "$run"' EXIT
 cd "$run"
-cc -O2 -o sink "$top/bench/sink.c"
+. "$top/bench/feeds.sh"
 
-# What INN's innfeed wants to be there.
-mkdir inn
-printf 'method tradspool {\n newsgroups: *\n class: 0\n}\n' >inn/storage.conf
-cat >inn/inn.conf <<END
-mta: "/bin/true %s"
-organization: "bench"
-pathhost: bench.example.com
-domain: example.com
-hismethod: hisv6
-enableoverview: false
-pathnews: /usr/lib/news
-pathetc: "$run/inn"
-pathdb: "$run/inn"
-pathlog: "$run/inn"
-pathrun: "$run/inn"
-pathspool: "$run"
-patharticles: "$run/articles"
-END
-
-# listen: a peer; its port is set.
-listen() {
-  rm -f port
-  ./sink -p 0 -l "${late:-0}" >port &
-  sink=$!
-  until [ -s port ]; do
-    kill -0 "$sink" 2>/dev/null || { echo 'feed.sh: the peer does not start' >&2; exit 1; }
-    sleep 0.02
-  done
-  port=$(grep -o '[0-9]*$' port)
-}
-# rate: ends the peer, and gives the articles a second between its first and its last. It tells where some are missing.
-rate() {
-  local got
-  kill "$sink"
-  wait "$sink" || true
-  got=$(sed -n 's/.*distinct=\([0-9]*\).*/\1/p' port)
-  [ "$got" = "$count" ] || echo "feed.sh: the peer has ${got:-0} of $count articles" >&2
-  sed -n 's/.*art_per_s=\([0-9]*\).*/\1/p' port
-}
-
-# timed COMMAND ..: runs it, and keeps its processor seconds in the file times.
-timed() {
-  local TIMEFORMAT='%U %S'
-  { time "$@" >told 2>&1 </dev/null; } 2>times || true
-}
-# spent COUNT: microseconds of the last timed command an article.
-spent() { awk -v count="$1" '{ printf "%.1f", ($1 + $2) * 1000000 / count }' times; }
-
-settings() {
-  echo "news-spool: \"$run/articles\""
-  echo "backlog-directory: \"$run/backlog\""
-  echo "status-file: \"$run/status\""
-  echo "max-queue-size: 20 max-connections: $1"
-  echo "peer p { ip-name: 127.0.0.1 port-number: $2 }"
-}
+# from_funnel PROGRAM CONNECTIONS: its rate.
 from_funnel() {
-  rm -rf backlog && mkdir backlog
+  anew
   listen
-  settings "$1" "$port" >conf
-  "$ours" -c conf funnel >told 2>&1
+  settings "$2" "${ports[@]}"
+  timed "$1" -c conf funnel.1
   rate
 }
+# from_backlog PROGRAM CONNECTIONS: its rate, once all is owed to a peer that could not be reached.
 from_backlog() {
-  rm -rf backlog && mkdir backlog
-  settings "$1" 1 >conf
-  "$ours" -c conf funnel >told 2>&1
+  anew
+  settings "$2" 1
+  "$1" -c conf funnel.1 >told 2>&1
   listen
-  settings "$1" "$port" >conf
-  timed ${trace:-} "$ours" -c conf -x
+  settings "$2" "${ports[@]}"
+  timed ${trace:-} "$1" -c conf -x
   rate
 }
-from_inn() {
-  rm -rf backlog && mkdir backlog
-  cp batch backlog/p
-  listen
-  cat >conf <<END
-news-spool: "$run/articles"
-backlog-directory: "$run/backlog"
-pid-file: "$run/inn/pid"
-log-file: "$run/inn/log"
-status-file: "$run/inn/status"
-dynamic-method: 0
-initial-connections: $1
-max-connections: $1
-max-queue-size: 20
-streaming: true
-peer p {
-  ip-name: 127.0.0.1
-  port-number: $port
-}
-END
-  timed env INNCONF="$run/inn/inn.conf" "$inn" -c "$run/conf" -b "$run/backlog" -a "$run/articles" -x
-  rate
-}
-# most COMMAND ..: the greatest of so many runs.
-most() {
-  local n
-  for ((n = 0; n < runs; n++)); do "$@"; done | sort -n | tail -n 1
-}
+# spent: microseconds of the last timed command an article.
+spent() { awk -v count="$count" '{ printf "%.1f", ($1 + $2) * 1000000 / count }' times; }
 # synced: microseconds that a write of one octet and its fdatasync take.
 synced() {
   local began
@@ -120,26 +51,26 @@ synced() {
   dd if=/dev/zero of=probe bs=1 count=100 oflag=dsync 2>/dev/null
   echo $((($(date +%s%N) - began) / 100000))
 }
+# each_size COMMAND ..: runs it for articles of each size.
+each_size() {
+  for size in 1024 4096 32768; do
+    articles "$size" $((size > 8192 ? most / 4 : most))
+    "$@"
+  done
+}
 
-for size in 1024 4096 32768; do
-  count=$((size > 8192 ? articles / 4 : articles))
-  rm -rf articles && mkdir articles
-  awk -v size="$size" -v count="$count" 'BEGIN {
-    while (length(body) < size - 80) body = body "A line of an article, as long as most of them are, or so.\n"
-    for (n = 1; n <= count; n++) {
-      file = "articles/" n
-      printf "Subject: %d\nMessage-ID: <%d@bench>\n\n%s", n, n, body > file
-      close(file)
-      print n, "<" n "@bench>" > "batch"
-      print n, "<" n "@bench>", "p" > "funnel"
-    }
-  }'
+# cell_rates: the rates of this size over each number of connections, beside INN's.
+cell_rates() {
+  local connections turn
   for connections in 1 2 4; do
-    backlog=$(most from_backlog "$connections")
-    funnel=$(most from_funnel "$connections")
-    inn_rate=
-    [ ! -x "$inn" ] || inn_rate=$(most from_inn "$connections")
-    awk -v size="$size" -v c="$connections" -v b="$backlog" -v f="$funnel" -v i="$inn_rate" -v s="$(synced)" -v commit="$commit" 'BEGIN {
+    rm -f rates.*
+    for ((turn = 0; turn < runs; turn++)); do
+      from_backlog "$ours" "$connections" >>rates.backlog
+      from_funnel "$ours" "$connections" >>rates.funnel
+      if [ -x "$inn" ]; then from_inn "$connections"; else echo 0; fi >>rates.inn
+    done
+    awk -v size="$size" -v c="$connections" -v b="$(greatest rates.backlog)" -v f="$(greatest rates.funnel)" \
+      -v i="$(greatest rates.inn)" -v s="$(synced)" -v commit="$commit" 'BEGIN {
       printf "%d octets, %d connections: from a backlog %d a second", size, c, b
       if (i > 0) printf " (%.2f times INN'"'"'s %d)", b / i, i
       printf ", from a funnel %d", f
@@ -147,26 +78,70 @@ for size in 1024 4096 32768; do
       printf ", a sync %d us (%s)\n", s, commit
     }'
   done
-  from_backlog 2 >rate.told
-  line="$size octets, 2 connections: $(spent "$count") us of processor an article"
+}
+
+# compared UNIT AIM OURS THEIRS: prints a figure of this size, way and number of connections beside the other checkout's.
+compared() {
+  ratio "$size octets, $connections connections, from a $way: $3 $1, beside the other checkout's $4$2" "$3" "$4"
+}
+
+# cell_ratios: the rates of this size over each number of connections, beside the other checkout's.
+cell_ratios() {
+  local connections turn way
+  for connections in 1 2 4; do
+    rm -f ours.* theirs.*
+    for ((turn = 0; turn < runs; turn++)); do
+      for way in backlog funnel; do
+        "from_$way" "$ours" "$connections" >>"ours.$way"
+        spent >>"ours.$way.spent"
+        "from_$way" "$BEFORE/crates/innfeed/out/innfeed" "$connections" >>"theirs.$way"
+        spent >>"theirs.$way.spent"
+      done
+    done
+    for way in backlog funnel; do
+      compared 'a second' ' (aim 0.95)' "$(greatest "ours.$way")" "$(greatest "theirs.$way")"
+      compared 'us of processor an article' '' "$(least "ours.$way.spent")" "$(least "theirs.$way.spent")"
+    done
+  done
+}
+
+# cell_costs: what an article of this size costs, beside INN's.
+cell_costs() {
+  local line
+  from_backlog "$ours" 2 >rate.told
+  line="$size octets, 2 connections: $(spent) us of processor an article"
   if [ -x "$inn" ]; then
     from_inn 2 >rate.told
-    line+=", INN's $(spent "$count")"
+    line+=", INN's $(spent)"
   fi
   if command -v strace >/dev/null; then
-    trace='strace -f -c -o calls' from_backlog 2 >rate.told
+    trace='strace -f -c -o calls' from_backlog "$ours" 2 >rate.told
     line+="; $(awk -v count="$count" '$NF == "read" || $NF == "openat" || $NF == "close" || $NF == "fstat" || $NF == "statx" { files += $4 }
       $NF == "sendto" || $NF == "write" || $NF == "writev" || $NF == "recvfrom" || $NF == "epoll_wait" || $NF == "epoll_pwait" { sockets += $4 }
       $NF == "total" { all = $4 } END { printf "%.2f calls of files, %.2f of others that move octets, %.2f in all", files / count, sockets / count, all / count }' calls)"
   fi
   echo "$line ($commit)"
-done
+}
 
-# With answers after 20 ms a window of 20 is the bound: with a CHECK before each article half of it goes to CHECKs.
-late=20
-for connections in 1 4; do
-  rate=$(from_backlog "$connections")
-  awk -v c="$connections" -v r="$rate" -v commit="$commit" 'BEGIN {
-    printf "20 ms, %d connections: %d a second, %.0f %% of the windows (%s)\n", c, r, r * 100 / (c * 20 / 0.02), commit
-  }'
+# window: with answers after 20 ms a window of 20 is the bound: with a CHECK before each article half of it goes to CHECKs.
+window() {
+  local connections
+  articles 32768 $((most / 4))
+  late=20
+  for connections in 1 4; do
+    awk -v c="$connections" -v r="$(from_backlog "$ours" "$connections")" -v commit="$commit" 'BEGIN {
+      printf "20 ms, %d connections: %d a second, %.0f %% of the windows (%s)\n", c, r, r * 100 / (c * 20 / 0.02), commit
+    }'
+  done
+  late=0
+}
+
+for part in "${parts[@]}"; do
+  case $part in
+    rates) each_size cell_rates ;;
+    before) [ -z "${BEFORE-}" ] || each_size cell_ratios ;;
+    costs) each_size cell_costs ;;
+    late) window ;;
+    *) echo "feed.sh: no part $part" >&2; exit 64 ;;
+  esac
 done

@@ -7,11 +7,15 @@
 #   how many octets of memory a debt takes in the whole program, from either: the most memory of a
 #     run with so many lines, less that of a run with a tenth of them.
 #
+# $BEFORE may name another checkout of this repository, in which the program is built. It runs by the
+# same turns, and it is printed how many times its time and its octets of memory a debt ours are (aim
+# for the octets: at most 1.4).
+#
 # Other programs that run at the same time move the time. It fails on none.
 . "$(dirname "$(readlink -f "${BASH_SOURCE[0]}")")/lib.sh"
+[ -z "${BEFORE-}" ] || built "$BEFORE" innfeed
 build innfeed
 lines=${1:-1000000} runs=${2:-3}
-ours=$top/crates/innfeed/out/innfeed
 run=$(mktemp -d)
 trap 'kill $(jobs -p) 2>/dev/null || true; rm -rf "$run"' EXIT
 cd "$run"
@@ -48,29 +52,40 @@ watched() {
   echo "1 run $(($(date +%s%N) - began)) nanoseconds $memory"
   [ "$status" = 0 ] || { echo "imports.sh: status $status: $(tail -n 1 told)" >&2; exit 1; }
 }
-from_funnel() {
+# both CHECKOUT WORD: runs its program over a funnel, and over a backlog file, and adds what was watched to the files
+# CHECKOUT.funnel.WORD and CHECKOUT.backlog.WORD.
+both() {
+  local checkout=$top
+  [ "$1" = ours ] || checkout=$BEFORE
   rm -rf backlog && mkdir backlog
-  watched "$ours" -c conf funnel
-}
-from_backlog() {
+  watched "$checkout/crates/innfeed/out/innfeed" -c conf funnel >>"$1.funnel.$2"
   rm -rf backlog && mkdir backlog
   cp batch backlog/p
-  watched "$ours" -c conf -x
+  watched "$checkout/crates/innfeed/out/innfeed" -c conf -x >>"$1.backlog.$2"
 }
-# a_debt KIBIBYTES KIBIBYTES: octets a debt, from the memory with the tenth and with all.
-a_debt() { awk -v few="$1" -v many="$2" -v debts=$((lines - lines / 10)) 'BEGIN { printf "%.0f", 1024 * (many - few) / debts }'; }
 
-memory() { awk 'END { print $5 }' "$1"; }
+# a_debt NAME: octets of memory a debt, from the runs with the tenth and with all.
+a_debt() {
+  awk -v debts=$((lines - lines / 10)) 'FNR == 1 { files++ } { memory[files] = $5 }
+    END { printf "%.0f", 1024 * (memory[2] - memory[1]) / debts }' "$1.few" "$1.many"
+}
 
+checkouts=(ours)
+[ -z "${BEFORE-}" ] || checkouts+=(theirs)
 written $((lines / 10))
-from_funnel >few.funnel
-from_backlog >few.backlog
+for checkout in "${checkouts[@]}"; do both "$checkout" few; done
 written "$lines"
 for ((turn = 0; turn < runs; turn++)); do
-  from_funnel >>many.funnel
-  from_backlog >>many.backlog
+  for checkout in "${checkouts[@]}"; do both "$checkout" many; done
 done
-funnel=$(best 1 cat many.funnel) backlog=$(best 1 cat many.backlog)
+funnel=$(best 1 cat ours.funnel.many) backlog=$(best 1 cat ours.backlog.many)
 ratio "a backlog file of $lines lines, $((backlog / lines)) ns a line, beside a funnel's $((funnel / lines))" "$backlog" "$funnel"
-echo "a debt in the whole program: $(a_debt "$(memory few.funnel)" "$(memory many.funnel)") octets of memory from a funnel," \
-  "$(a_debt "$(memory few.backlog)" "$(memory many.backlog)") from a backlog file ($commit)"
+echo "a debt in the whole program: $(a_debt ours.funnel) octets of memory from a funnel," \
+  "$(a_debt ours.backlog) from a backlog file ($commit)"
+[ -n "${BEFORE-}" ] || exit 0
+for way in funnel backlog; do
+  time=$(best 1 cat "ours.$way.many") other=$(best 1 cat "theirs.$way.many")
+  ratio "a line of a $way, $((time / lines)) ns, beside the other checkout's $((other / lines))" "$time" "$other"
+  ratio "memory of a debt of a $way, $(a_debt "ours.$way") octets, beside the other checkout's $(a_debt "theirs.$way") (aim 1.4)" \
+    "$(a_debt "ours.$way")" "$(a_debt "theirs.$way")"
+done

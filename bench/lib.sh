@@ -12,11 +12,11 @@ bench() { "$top/crates/tool_bench/out/tool_bench" "$@"; }
 # other NAME WORD ..: the same of the program in the checkout that $BEFORE names.
 other() { "$BEFORE/crates/tool_bench/out/tool_bench" "$@"; }
 
-# built CHECKOUT: ends the script with 70 if another checkout's program of the benchmarks is missing, or older than its
-# sources.
+# built CHECKOUT [NAME]: ends the script with 70 if another checkout's program of this name, or that of the benchmarks,
+# is missing, or older than its sources.
 built() {
-  if (top=$1 && stale tool_bench); then
-    echo "${0##*/}: the program of the benchmarks is missing in $1, or older than its sources: build it there" >&2
+  if (top=$1 && stale "${2:-tool_bench}"); then
+    echo "${0##*/}: ${2:-tool_bench} is missing in $1, or older than its sources: build it there" >&2
     exit 70
   fi
 }

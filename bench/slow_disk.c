@@ -1,6 +1,6 @@
 /*
- * A slow disk: each fdatasync(2) of a program takes $SYNC_MS milliseconds longer. It is loaded before
- * the C library:
+ * A slow disk: each fdatasync(2) of a program takes $SYNC_MS milliseconds longer, which may be a
+ * fraction. It is loaded before the C library:
  *
  *   cc -O2 -shared -fPIC -o slow_disk.so slow_disk.c
  *   SYNC_MS=5 LD_PRELOAD=./slow_disk.so PROGRAM ..
@@ -12,8 +12,8 @@
 
 int fdatasync(int file) {
   const char *words = getenv("SYNC_MS");
-  long milliseconds = words == NULL ? 0 : atol(words);
-  struct timespec left = {milliseconds / 1000, milliseconds % 1000 * 1000000};
+  long microseconds = words == NULL ? 0 : (long)(1000 * atof(words));
+  struct timespec left = {microseconds / 1000000, microseconds % 1000000 * 1000};
   long failed = syscall(SYS_fdatasync, file);
   while (nanosleep(&left, &left) != 0) {
   }

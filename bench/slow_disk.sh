@@ -1,62 +1,111 @@
 #!/usr/bin/env bash
-# slow_disk.sh [LINES [RUNS]]: how fast funnel lines (20,000) are taken, and their articles delivered, if each sync of a
-# file takes 5 ms longer (bench/slow_disk.c, built by cc): lines a second of a whole run, from its start to its end, with
-# one peer and with four, each in memory (bench/sink.c); each line names all peers, and its article has 1 KiB. Each is
-# the best of so many runs (3).
+# slow_disk.sh [LINES [RUNS [PART ..]]]: how fast the lines of a funnel (20,000) are taken, and their articles delivered,
+# if each sync of a file takes 5 ms longer (bench/slow_disk.c, built by cc); each is the best of so many runs (3). The
+# parts are, all of them if none is named:
+#   peers: with one peer and with four, each in memory (bench/sink.c) and with two connections, where each line names
+#     all peers and its article has 1 KiB: how many lines a second are taken, from the start of the program to its last
+#     `taken N` (aim: 50,000 with four), and how many of a whole run, to its end;
+#   inn: with one peer, and where Debian's inn2 is installed, how many articles a second that peer gets, between its
+#     first and its last, of 1, 4 and 32 KiB (of these a quarter as many) over 1, 2 and 4 connections, beside INN's
+#     innfeed, which works off as many from a backlog file on the same disk (aim: at least 1.3).
 #
 # $BEFORE may name another checkout of this repository, in which the program is built. It runs by turns with this one's,
-# and it is printed how many times its lines a second ours are (aim: at least 2 with four peers).
+# and for `peers` it is printed how many times its lines a second ours are (aim for whole runs: at least 2 with four
+# peers).
 #
 # Other programs that run at the same time move these. It fails on none.
 . "$(dirname "$(readlink -f "${BASH_SOURCE[0]}")")/lib.sh"
+[ -z "${BEFORE-}" ] || built "$BEFORE" innfeed
 build innfeed
-lines=${1:-20000} runs=${2:-3}
+lines=${1:-20000} runs=${2:-3} parts=("${@:3}")
+[ ${#parts[@]} -gt 0 ] || parts=(peers inn)
 run=$(mktemp -d)
-sinks=()
-trap 'kill "${sinks[@]}" 2>/dev/null || true; rm -rf "$run"' EXIT
+trap 'kill $(jobs -p) 2>/dev/null || true; rm -rf "$run"' EXIT
 cd "$run"
-cc -O2 -o sink "$top/bench/sink.c"
+. "$top/bench/feeds.sh"
 cc -O2 -shared -fPIC -o slow_disk.so "$top/bench/slow_disk.c"
-mkdir articles
-awk -v count="$lines" 'BEGIN {
-  while (length(body) < 944) body = body "A line of an article, as long as most of them are, or so.\n"
-  for (n = 1; n <= count; n++) {
-    file = "articles/" n
-    printf "Subject: %d\nMessage-ID: <%d@bench>\n\n%s", n, n, body > file
-    close(file)
-    print n, "<" n "@bench>", "p1" > "funnel.1"
-    print n, "<" n "@bench>", "p1 p2 p3 p4" > "funnel.4"
-  }
-}'
 
-# fed PROGRAM PEERS: the lines a second of one run.
+surroundings=(SYNC_MS=5 LD_PRELOAD="$run/slow_disk.so")
+
+# per_second BEGAN ENDED: so many lines a second, between these microseconds.
+per_second() { echo $((count * 1000000 / ($2 - $1))); }
+
+# now: the microsecond that it is.
+now() { echo "${EPOCHREALTIME/[.,]/}"; }
+
+# fed CHECKOUT PEERS NAME: one run; its lines a second go to NAME.taken and NAME.whole.
 fed() {
-  local peer began
-  sinks=()
-  rm -rf backlog && mkdir backlog
-  printf 'news-spool: "%s"\nbacklog-directory: "%s"\nmax-connections: 2\n' "$run/articles" "$run/backlog" >conf
-  for ((peer = 1; peer <= $2; peer++)); do
-    rm -f port
-    ./sink -p 0 >port &
-    sinks+=($!)
-    until [ -s port ]; do sleep 0.02; done
-    printf 'peer p%d { ip-name: 127.0.0.1 port-number: %s }\n' "$peer" "$(grep -o '[0-9]*$' port)" >>conf
-  done
-  began=$(date +%s%N)
-  SYNC_MS=5 LD_PRELOAD=$run/slow_disk.so "$1" -c conf "funnel.$2" >told 2>&1
-  echo $((lines * 1000000000 / ($(date +%s%N) - began)))
-  kill "${sinks[@]}"
-  wait "${sinks[@]}" 2>/dev/null || true
+  local began word number
+  anew
+  listen "$2"
+  settings 2 "${ports[@]}"
+  rm -f taken
+  began=$(now)
+  env "${surroundings[@]}" "$1/crates/innfeed/out/innfeed" -c conf "funnel.$2" 2>log | while read -r word number; do
+    [ "$word $number" != "taken $count" ] || now >taken
+  done || { cat log >&2; exit 1; }
+  per_second "$began" "$(now)" >>"$3.whole"
+  per_second "$began" "$(<taken)" >>"$3.taken"
+  hush
 }
 
-for peers in 1 4; do
-  : >ours
-  : >theirs
-  for ((turn = 0; turn < runs; turn++)); do
-    fed "$top/crates/innfeed/out/innfeed" "$peers" >>ours
-    [ -z "${BEFORE-}" ] || fed "$BEFORE/crates/innfeed/out/innfeed" "$peers" >>theirs
+# beside KIND WORDS [AIM]: prints how many times the other checkout's best rate of that kind ours is.
+beside() {
+  local rate other
+  rate=$(greatest "ours.$1")
+  [ -n "${BEFORE-}" ] || { echo "syncs of 5 ms more, $2: $rate lines a second ($commit)"; return; }
+  other=$(greatest "theirs.$1")
+  ratio "syncs of 5 ms more, $2: $rate lines a second, beside the other checkout's $other${3-}" "$rate" "$other"
+}
+
+# with_peers: runs with one peer and with four.
+with_peers() {
+  local peers turn
+  articles 1024 "$lines"
+  for peers in 1 4; do
+    rm -f ours.* theirs.*
+    for ((turn = 0; turn < runs; turn++)); do
+      fed "$top" "$peers" ours
+      [ -z "${BEFORE-}" ] || fed "$BEFORE" "$peers" theirs
+    done
+    if [ "$peers" = 1 ]; then
+      beside taken 'one peer, taken'
+      beside whole 'one peer, whole runs'
+    else
+      beside taken 'four peers, taken'
+      beside whole 'four peers, whole runs' ' (aim 2)'
+      ratio 'syncs of 5 ms more, four peers, taken, beside 50,000 lines a second' "$(greatest ours.taken)" 50000
+    fi
   done
-  rate=$(sort -n ours | tail -n 1) other=$(sort -n theirs | tail -n 1)
-  echo "syncs of 5 ms more, $peers peers: $rate lines a second ($commit)"
-  [ -z "${BEFORE-}" ] || ratio "the same beside the other checkout's $other (aim at 4 peers: 2)" "$rate" "$other"
+}
+
+# beside_inn: runs of ours and of INN's, by turns.
+beside_inn() {
+  local size connections turn ours
+  [ -x "$inn" ] || { echo "slow_disk.sh: nothing to compare with, since there is no $inn"; return; }
+  for size in 1024 4096 32768; do
+    articles "$size" $((size > 8192 ? lines / 4 : lines))
+    for connections in 1 2 4; do
+      rm -f ours inns
+      for ((turn = 0; turn < runs; turn++)); do
+        anew
+        listen
+        settings "$connections" "${ports[@]}"
+        timed env "${surroundings[@]}" "$top/crates/innfeed/out/innfeed" -c conf funnel.1
+        rate >>ours
+        from_inn "$connections" >>inns
+      done
+      ours=$(greatest ours)
+      ratio "syncs of 5 ms more, $size octets, $connections connections: $ours a second, beside INN's $(greatest inns) (aim 1.3)" \
+        "$ours" "$(greatest inns)"
+    done
+  done
+}
+
+for part in "${parts[@]}"; do
+  case $part in
+    peers) with_peers ;;
+    inn) beside_inn ;;
+    *) echo "slow_disk.sh: no part $part" >&2; exit 64 ;;
+  esac
 done

@@ -1,0 +1,133 @@
+# What the scripts share that feed articles to a peer in memory (bench/sink.c, built by cc), by our innfeed and by INN's;
+# each sources it behind lib.sh, in a folder of its own, whose path is $run. $count is the number of articles.
+
+# INN's innfeed, where Debian's inn2 is installed.
+inn=/usr/lib/news/bin/innfeed
+
+# What stands in a feeder's environment besides.
+surroundings=()
+
+cc -O2 -o sink "$top/bench/sink.c"
+
+# What INN's innfeed wants to be there.
+mkdir inn
+printf 'method tradspool {\n newsgroups: *\n class: 0\n}\n' >inn/storage.conf
+cat >inn/inn.conf <<END
+mta: "/bin/true %s"
+organization: "bench"
+pathhost: bench.example.com
+domain: example.com
+hismethod: hisv6
+enableoverview: false
+pathnews: /usr/lib/news
+pathetc: "$run/inn"
+pathdb: "$run/inn"
+pathlog: "$run/inn"
+pathrun: "$run/inn"
+pathspool: "$run"
+patharticles: "$run/articles"
+END
+
+# articles SIZE COUNT: sets count; so many articles of about so many octets, a batch of them for INN's innfeed, and
+# funnels of them for ours: for the peer p1, and for p1 to p4.
+articles() {
+  count=$2
+  rm -rf articles && mkdir articles
+  awk -v size="$1" -v count="$2" 'BEGIN {
+    while (length(body) < size - 80) body = body "A line of an article, as long as most of them are, or so.\n"
+    for (n = 1; n <= count; n++) {
+      file = "articles/" n
+      printf "Subject: %d\nMessage-ID: <%d@bench>\n\n%s", n, n, body > file
+      close(file)
+      print n, "<" n "@bench>" > "batch"
+      print n, "<" n "@bench>", "p1" > "funnel.1"
+      print n, "<" n "@bench>", "p1 p2 p3 p4" > "funnel.4"
+    }
+  }'
+}
+
+# listen [PEERS]: so many peers (1), each of which answers after $late milliseconds (0); `sinks` has their processes, and
+# `ports` their ports.
+listen() {
+  local peer
+  sinks=() ports=()
+  for ((peer = 1; peer <= ${1:-1}; peer++)); do
+    rm -f "told.$peer"
+    ./sink -p 0 -l "${late:-0}" >"told.$peer" &
+    sinks+=($!)
+    until [ -s "told.$peer" ]; do
+      kill -0 "${sinks[-1]}" 2>/dev/null || { echo "${0##*/}: the peer does not start" >&2; exit 1; }
+      sleep 0.02
+    done
+    ports+=("$(grep -o '[0-9]*$' "told.$peer")")
+  done
+}
+
+# hush: ends the peers, and tells which one has not had each article.
+hush() {
+  local peer got
+  kill "${sinks[@]}"
+  wait "${sinks[@]}" || true
+  for ((peer = 1; peer <= ${#sinks[@]}; peer++)); do
+    got=$(sed -n 's/.*distinct=\([0-9]*\).*/\1/p' "told.$peer")
+    [ "$got" = "$count" ] || echo "${0##*/}: the peer has ${got:-0} of $count articles" >&2
+  done
+  sinks=()
+}
+
+# rate: ends the peer, and prints the articles a second between its first and its last.
+rate() {
+  hush
+  sed -n 's/.*art_per_s=\([0-9]*\).*/\1/p' told.1
+}
+
+# timed COMMAND ..: runs it, and keeps its processor seconds in the file times.
+timed() {
+  local TIMEFORMAT='%U %S'
+  { time "$@" >told 2>&1 </dev/null; } 2>times || true
+}
+
+# anew: an empty backlog directory.
+anew() { rm -rf backlog && mkdir backlog; }
+
+# settings CONNECTIONS PORT ..: a configuration for ours, with a peer at each port.
+settings() {
+  local connections=$1 peer=0 port
+  shift
+  {
+    echo "news-spool: \"$run/articles\""
+    echo "backlog-directory: \"$run/backlog\""
+    echo "status-file: \"$run/status\""
+    echo "max-queue-size: 20 max-connections: $connections"
+    for port in "$@"; do echo "peer p$((peer += 1)) { ip-name: 127.0.0.1 port-number: $port }"; done
+  } >conf
+}
+
+# from_inn CONNECTIONS: the rate of INN's innfeed, which works off a backlog file.
+from_inn() {
+  anew
+  cp batch backlog/p1
+  listen
+  cat >conf <<END
+news-spool: "$run/articles"
+backlog-directory: "$run/backlog"
+pid-file: "$run/inn/pid"
+log-file: "$run/inn/log"
+status-file: "$run/inn/status"
+dynamic-method: 0
+initial-connections: $1
+max-connections: $1
+max-queue-size: 20
+streaming: true
+peer p1 {
+  ip-name: 127.0.0.1
+  port-number: ${ports[0]}
+}
+END
+  timed env INNCONF="$run/inn/inn.conf" "${surroundings[@]}" "$inn" -c "$run/conf" -b "$run/backlog" -a "$run/articles" -x
+  rate
+}
+
+# greatest FILE, least FILE: the greatest number in a file of numbers, and the least.
+greatest() { sort -n "$1" | tail -n 1; }
+least() { sort -n "$1" | head -n 1; }
