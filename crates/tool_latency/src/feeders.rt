@@ -1,4 +1,5 @@
-// What is claimed and finished while tapes are synced.
+// What is claimed and finished while tapes are flushed.
+use crate::beside::Flushes;
 use crate::times::Times;
 use conn_core::{Conn, CxnId, Options, Outcome};
 use disk_model::Disk;
@@ -15,19 +16,29 @@ const REST_US: u64 = 100;
 
 const CONNECTION: CxnId = CxnId(1);
 
+// The peer whose debts are finished, and the one whose debts are on its tape alone.
+const FED: usize = 0;
+
+const WATCHED: usize = 1;
+
 /// Claims the debts of the first peer, and finishes each.
 #[derive(Drop)]
-pub struct Feeder<N: Naming> {
+pub struct Feeder<'a, N: Naming> {
     pub alloc: Global,
     pub share: FeederShare<N>,
+    pub flushes: &'a Flushes,
     pub conn: Conn,
     pub claims: Times,
     pub finishes: Times,
 }
 
-impl<N: Naming> Feeder<N> {
+impl<'a, N: Naming> Feeder<'a, N> {
     /// One whose connection has agreed to streaming.
-    pub fn new(alloc: Global, share: FeederShare<N>) -> anyhow::Result<Feeder<N>> {
+    pub fn new(
+        alloc: Global,
+        share: FeederShare<N>,
+        flushes: &'a Flushes,
+    ) -> anyhow::Result<Feeder<'a, N>> {
         let options = Options {
             streaming: true,
             max_queue: 20,
@@ -41,6 +52,7 @@ impl<N: Naming> Feeder<N> {
         Ok(Feeder {
             alloc,
             share,
+            flushes,
             conn,
             claims: Times::new(alloc),
             finishes: Times::new(alloc),
@@ -53,15 +65,16 @@ impl<N: Naming> Feeder<N> {
         rt: &R,
         post: &Post<D, N>,
     ) -> Result<bool, &'static str> {
-        if post.peers() == 0 {
+        if post.peers() <= FED {
             return Err("no peer");
         }
+        let beside = self.flushes.is_of(FED);
         let start = Instant::now(rt).map_err(|_| "no clock")?;
-        let claimed = post.claim(rt, 0, CONNECTION, 0);
+        let claimed = post.claim(rt, FED, CONNECTION, 0);
         let time = start.elapsed(rt).map_err(|_| "no clock")?;
         match claimed {
             Ok(Some(debt)) => {
-                self.claims.add(time).map_err(|_| "out of memory")?;
+                self.claims.add(time, beside).map_err(|_| "out of memory")?;
                 self.finish(rt, post, debt)?;
                 Ok(true)
             }
@@ -77,15 +90,16 @@ impl<N: Naming> Feeder<N> {
         post: &Post<D, N>,
         debt: Debt,
     ) -> Result<(), &'static str> {
-        if post.peers() == 0 {
+        if post.peers() <= FED {
             return Err("no peer");
         }
         let outcome = refused(self.alloc, &mut self.conn, debt)?;
+        let beside = self.flushes.is_of(FED);
         let start = Instant::now(rt).map_err(|_| "no clock")?;
-        let finished = post.finish(rt, 0, CONNECTION, outcome, 0, &mut self.share);
+        let finished = post.finish(rt, FED, CONNECTION, outcome, 0, &mut self.share);
         let time = start.elapsed(rt).map_err(|_| "no clock")?;
         match finished {
-            Ok(_) => self.finishes.add(time).map_err(|_| "out of memory"),
+            Ok(_) => self.finishes.add(time, beside).map_err(|_| "out of memory"),
             Err(_) => Err("an outcome was refused"),
         }
     }
@@ -121,31 +135,46 @@ fn reply_on(alloc: Global, debt: &Debt) -> anyhow::Result<Vec<u8>> {
 
 /// Tries to claim debts of the second peer, whose texts are on its tape alone, and gives each back.
 #[derive(Drop)]
-pub struct Watcher<N: Naming> {
+pub struct Watcher<'a, N: Naming> {
     pub share: FeederShare<N>,
-    /// The claims that were refused since the tape was in use.
+    pub flushes: &'a Flushes,
+    /// All such claims.
+    pub tries: Times,
+    /// Those that were refused since the tape, or the front, was in use.
     pub busy: Times,
 }
 
-impl<N: Naming> Watcher<N> {
+impl<'a, N: Naming> Watcher<'a, N> {
+    /// One that has tried nothing.
+    pub fn new(alloc: Global, share: FeederShare<N>, flushes: &'a Flushes) -> Watcher<'a, N> {
+        Watcher {
+            share,
+            flushes,
+            tries: Times::new(alloc),
+            busy: Times::new(alloc),
+        }
+    }
+
     fn watch<D: Disk, R: Wait + Clock>(
         &mut self,
         rt: &R,
         post: &Post<D, N>,
     ) -> Result<bool, &'static str> {
-        if post.peers() < 2 {
+        if post.peers() <= WATCHED {
             return Err("no second peer");
         }
+        let beside = self.flushes.is_of(WATCHED);
         let start = Instant::now(rt).map_err(|_| "no clock")?;
-        let claimed = post.try_claim(rt, 1, CONNECTION, 0);
+        let claimed = post.try_claim(rt, WATCHED, CONNECTION, 0);
         let time = start.elapsed(rt).map_err(|_| "no clock")?;
+        self.tries.add(time, beside).map_err(|_| "out of memory")?;
         match claimed {
             Ok(_) => {
-                post.release(rt, 1, CONNECTION);
+                post.release(rt, WATCHED, CONNECTION);
                 Ok(false)
             }
             Err(PostFault::Busy { .. }) => {
-                self.busy.add(time).map_err(|_| "out of memory")?;
+                self.busy.add(time, beside).map_err(|_| "out of memory")?;
                 Ok(false)
             }
             Err(_) => Err("a claim was refused"),
@@ -155,26 +184,26 @@ impl<N: Naming> Watcher<N> {
 
 /// One of the two.
 #[derive(Drop)]
-pub enum Job<N: Naming> {
-    Feed(Feeder<N>),
-    Watch(Watcher<N>),
+pub enum Job<'a, N: Naming> {
+    Feed(Feeder<'a, N>),
+    Watch(Watcher<'a, N>),
 }
 
 /// A worker that does its job until the last phase, and what stopped it.
 #[derive(Drop)]
-pub struct Worker<N: Naming> {
-    pub job: Job<N>,
+pub struct Worker<'a, N: Naming> {
+    pub job: Job<'a, N>,
     pub failure: Option<&'static str>,
 }
 
-impl<N: Naming> Worker<N> {
+impl<'a, N: Naming> Worker<'a, N> {
     /// One that nothing has stopped.
-    pub fn new(job: Job<N>) -> Worker<N> {
+    pub fn new(job: Job<'a, N>) -> Worker<'a, N> {
         Worker { job, failure: None }
     }
 }
 
-impl<D: Disk, N: Naming> Work<D, N> for Worker<N> {
+impl<'a, D: Disk, N: Naming> Work<D, N> for Worker<'a, N> {
     fn run<R: AllocGlobal + Wait + Clock + Log, P: Pace>(
         &mut self,
         rt: &R,

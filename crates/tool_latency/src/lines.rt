@@ -1,4 +1,5 @@
 // The intake.
+use crate::beside::Flushes;
 use crate::times::Times;
 use anyhow::Result;
 use disk_model::Disk;
@@ -17,15 +18,17 @@ const BATCH_LINES: u64 = 64;
 
 /// Takes lines of both peers until so many flushes have ended.
 #[derive(Drop)]
-pub struct Intake<N: Naming> {
+pub struct Intake<'a, N: Naming> {
     pub alloc: Global,
     pub share: IntakeShare<N>,
-    pub flushes: u64,
+    pub flushes: &'a Flushes,
+    /// How many flushes are to end.
+    pub count: u64,
     pub lines: Times,
     pub failure: Option<&'static str>,
 }
 
-impl<N: Naming> Intake<N> {
+impl<'a, N: Naming> Intake<'a, N> {
     fn take_lines<D: Disk, R: Wait + Clock>(
         &mut self,
         rt: &R,
@@ -35,7 +38,7 @@ impl<N: Naming> Intake<N> {
         let mut receipts: u64 = 0;
         let mut latest = 0;
         for line in 0..u64::MAX {
-            if receipts >= self.flushes || signals.is_stopped() {
+            if receipts >= self.count || signals.is_stopped() {
                 break;
             }
             self.take(rt, post, line)?;
@@ -61,15 +64,16 @@ impl<N: Naming> Intake<N> {
         line: u64,
     ) -> Result<(), &'static str> {
         let line = line_of(self.alloc, line, "p q").map_err(|_| "out of memory")?;
+        let beside = self.flushes.is_any();
         let start = Instant::now(rt).map_err(|_| "no clock")?;
         post.take_line(rt, line.as_bytes(), &mut self.share)
             .map_err(|_| "a line was refused")?;
         let time = start.elapsed(rt).map_err(|_| "no clock")?;
-        self.lines.add(time).map_err(|_| "out of memory")
+        self.lines.add(time, beside).map_err(|_| "out of memory")
     }
 }
 
-impl<D: Disk, N: Naming> Work<D, N> for Intake<N> {
+impl<'a, D: Disk, N: Naming> Work<D, N> for Intake<'a, N> {
     fn run<R: AllocGlobal + Wait + Clock + Log, P: Pace>(
         &mut self,
         rt: &R,

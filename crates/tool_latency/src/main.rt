@@ -1,9 +1,10 @@
-//! How long the calls of a post take while tapes are synced.
+//! How long the calls of a post take while tapes are flushed.
 //!
 //! May touch its arguments, the clock, threads and standard output, and the directory that it is given; it stands on
 //! the public calls of flusher. With no argument it runs once, over disks in memory, and prints what is the same on
 //! each run. `DIRECTORY FLUSHES` keeps a post over files of this directory at work until so many flushes have ended,
-//! and prints `COUNT CALL P nanoseconds` for each call, where P is the time that 99 of 100 such calls kept within;
+//! and prints `COUNT CALL P nanoseconds` for each call, where P is the time that 99 of 100 such calls kept within that
+//! began while the peer's tape was flushed; `refused` are the calls of `try_claim` that were told `Busy`.
 //! bench/latency.sh prints ratios from it. Nothing stands above it, and it promises nothing.
 #![tactic(auto)]
 
@@ -13,10 +14,12 @@ ghost use Rattle.std.specs.List.{All};
 ghost use Rattle.flusher.specs.Post.{IsFor, names_of};
 ghost use Rattle.flusher.specs.Sealed.{IsFlushed};
 
+mod beside;
 mod feeders;
 mod lines;
 mod times;
 
+use crate::beside::Flushes;
 use crate::feeders::{Feeder, Job, Watcher, Worker};
 use crate::lines::{Intake, line_of};
 use crate::times::Times;
@@ -100,6 +103,7 @@ struct Measured {
     lines: Times,
     claims: Times,
     finishes: Times,
+    tries: Times,
     busy: Times,
 }
 
@@ -109,12 +113,14 @@ impl Measured {
             lines,
             claims,
             finishes,
+            tries,
             busy,
         } = self;
         lines.print(rt, "take_line")?;
         claims.print(rt, "claim")?;
         finishes.print(rt, "finish")?;
-        busy.print(rt, "try_claim")
+        tries.print(rt, "try_claim")?;
+        busy.print(rt, "refused")
     }
 }
 
@@ -122,7 +128,7 @@ impl Measured {
 fn measure<D: Disk + Drop + Send, R: AllocGlobal + Clock + Log + Threads + Wait + Sync>(
     rt: &R,
     disks: Vec<(D, D)>,
-    flushes: u64,
+    count: u64,
 ) -> Result<Measured> {
     let alloc = rt.alloc();
     let mut disks = disks.into_iter();
@@ -134,7 +140,7 @@ fn measure<D: Disk + Drop + Send, R: AllocGlobal + Clock + Log + Threads + Wait 
     };
     let peers = vec![in alloc; first, second]?;
     let blanks = Blanks::new(alloc, 2)?;
-    work::<Brand, D, R>(rt, peers, intake, blanks, flushes)
+    work::<Brand, D, R>(rt, peers, intake, blanks, count)
 }
 
 fn peer_on<D: Disk + Drop>(alloc: Global, name: &[u8], disks: (D, D)) -> Result<Peer<D>>
@@ -152,7 +158,7 @@ fn work<
     N: Naming + Send + Sync,
     D: Disk + Drop + Send,
     R: AllocGlobal + Clock + Log + Threads + Wait + Sync,
->(rt: &R, peers: Vec<Peer<D>>, intake: Tape<D>, blanks: Blanks, flushes: u64) -> Result<Measured>
+>(rt: &R, peers: Vec<Peer<D>>, intake: Tape<D>, blanks: Blanks, count: u64) -> Result<Measured>
     requires names { N.names ≡ names_of blanks peers.items }
     requires blanks { IsFor (length peers.items) blanks }
     requires flushed { All (λ p. IsFlushed p.station) peers.items }
@@ -160,15 +166,14 @@ fn work<
     let alloc = rt.alloc();
     let (post, mut share, first, second, third) = Post::<D, N>::new(alloc, peers, intake, blanks)?;
     owe(rt, &post, &mut share)?;
-    let feeder = Worker::new(Job::Feed(Feeder::new(alloc, first)?));
-    let watcher = Worker::new(Job::Watch(Watcher {
-        share: second,
-        busy: Times::new(alloc),
-    }));
+    let flushes = Flushes::new();
+    let feeder = Worker::new(Job::Feed(Feeder::new(alloc, first, &flushes)?));
+    let watcher = Worker::new(Job::Watch(Watcher::new(alloc, second, &flushes)));
     let mut intake = Intake {
         alloc,
         share,
-        flushes,
+        flushes: &flushes,
+        count,
         lines: Times::new(alloc),
         failure: None,
     };
@@ -182,7 +187,7 @@ fn work<
         feeders,
         flusher,
         &mut intake,
-        &Free,
+        &flushes,
     ) else {
         bail!("a thread was not started");
     };
@@ -195,9 +200,9 @@ fn work<
 
 // What the workers have measured, unless one failed.
 fn measured_by<N: Naming>(
-    first: Worker<N>,
-    second: Worker<N>,
-    intake: Intake<N>,
+    first: Worker<'_, N>,
+    second: Worker<'_, N>,
+    intake: Intake<'_, N>,
 ) -> Result<Measured> {
     let Intake { lines, failure, .. } = intake;
     if let Some(failure) = failure.or(first.failure).or(second.failure) {
@@ -214,11 +219,12 @@ fn measured_by<N: Naming>(
         finishes,
         ..
     } = feeder;
-    let Watcher { busy, .. } = watcher;
+    let Watcher { tries, busy, .. } = watcher;
     Ok(Measured {
         lines,
         claims,
         finishes,
+        tries,
         busy,
     })
 }

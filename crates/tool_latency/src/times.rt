@@ -3,9 +3,11 @@ use anyhow::Result;
 use std::alloc::{AllocError, Global};
 use std::time::Duration;
 
-/// How long each call of one kind took, in nanoseconds.
+/// How long each call of one kind took that began while a tape was flushed, in nanoseconds.
 #[derive(Drop)]
 pub struct Times {
+    // How many calls there were, beside a flush or not.
+    calls: u64,
     nanoseconds: Vec<u64>,
 }
 
@@ -13,23 +15,27 @@ impl Times {
     /// None were made.
     pub fn new(alloc: Global) -> Times {
         Times {
+            calls: 0,
             nanoseconds: Vec::new(alloc),
         }
     }
 
-    /// One more took so long.
-    pub fn add(&mut self, time: Duration) -> Result<(), AllocError> {
-        self.nanoseconds
-            .push(u64::try_from(time.as_nanos()).unwrap_or(u64::MAX))?;
+    /// One more took so long, and began beside a flush or not.
+    pub fn add(&mut self, time: Duration, beside: bool) -> Result<(), AllocError> {
+        self.calls = self.calls.saturating_add(1);
+        if beside {
+            self.nanoseconds
+                .push(u64::try_from(time.as_nanos()).unwrap_or(u64::MAX))?;
+        }
         Ok(())
     }
 
     /// Whether none were made.
     pub fn is_empty(&self) -> bool {
-        self.nanoseconds.is_empty()
+        self.calls == 0
     }
 
-    /// Prints how many were made, and the time that 99 of 100 of them kept within.
+    /// Prints how many began beside a flush, and the time that 99 of 100 of them kept within.
     pub fn print<R: Print>(mut self, rt: &R, call: &str) -> Result<()> {
         self.nanoseconds.sort()?;
         let count = self.nanoseconds.len();
