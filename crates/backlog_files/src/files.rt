@@ -4,7 +4,7 @@ use crate::import::{close, take_in};
 use crate::import_report::ImportReport;
 use crate::same_file::FileId;
 use disk_model::{Disk, TapeDirectory};
-use flusher::Peer;
+use flusher::PostPeer;
 use funnel::PeerName;
 use funnel_files::LineFile;
 use std::alloc::AllocError;
@@ -65,7 +65,10 @@ impl<'a, F: AllocGlobal + Files<File = File>> BacklogFiles<'a, F> {
     /// `Unread` if it is not a regular file, or serves another purpose: then it was not touched; or if it cannot be
     /// opened, or read to its end. `Station`: what the station refused. `Unremoved`: all was taken in, and would be
     /// taken in again.
-    pub fn take_in<D: Disk>(&self, peer: &mut Peer<D>) -> Result<Option<Imported>, BacklogFault> {
+    pub fn take_in<D: Disk>(
+        &self,
+        peer: &mut PostPeer<D>,
+    ) -> Result<Option<Imported>, BacklogFault> {
         let path = self.path_of(&peer.name)?;
         match fs::symlink_metadata(self.files, path.as_str()) {
             Ok(found) => match self.take_found(peer, path, &found) {
@@ -82,7 +85,7 @@ impl<'a, F: AllocGlobal + Files<File = File>> BacklogFiles<'a, F> {
 
     fn take_found<D: Disk>(
         &self,
-        peer: &mut Peer<D>,
+        peer: &mut PostPeer<D>,
         path: String,
         found: &Metadata,
     ) -> Result<Imported, BacklogFault> {
@@ -155,7 +158,7 @@ fn no_backlog(why: &'static str) -> io::Error {
 }
 
 // Closes the source that is open, if lines of it were taken in.
-fn close_open<D: Disk>(peer: &mut Peer<D>) -> Result<(), BacklogFault> {
+fn close_open<D: Disk>(peer: &mut PostPeer<D>) -> Result<(), BacklogFault> {
     if peer.station.import_mark() > 0 {
         close(peer)?;
     }

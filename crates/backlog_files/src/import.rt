@@ -12,7 +12,7 @@ ghost use Rattle.peer_queue.specs.Words.{ledger_of, open_key};
 use crate::fault::ImportFault;
 use crate::import_report::ImportReport;
 use disk_model::Disk;
-use flusher::Peer;
+use flusher::PostPeer;
 use funnel::{LineFault, MsgId, Token, read_backlog_line};
 use funnel_files::LineFile;
 use ledger_core::LedgerFault;
@@ -45,9 +45,9 @@ impl Import {
     /// number were noted before.
     ///
     /// # Errors
-    /// `Tape(Note(CountFull))` if no number is left; the errors of [`Peer::import`], except `Tape(PendingFull)`,
-    /// because a flush makes room; those of [`Peer::flush_or_rotate`]; `NoMemory`. The line is not taken then.
-    pub fn take<D: Disk>(&mut self, peer: &mut Peer<D>, line: &[u8]) -> Result<(), StationFault>
+    /// `Tape(Note(CountFull))` if no number is left; the errors of [`PostPeer::import`], except `Tape(PendingFull)`,
+    /// because a flush makes room; those of [`PostPeer::flush_or_rotate`]; `NoMemory`. The line is not taken then.
+    pub fn take<D: Disk>(&mut self, peer: &mut PostPeer<D>, line: &[u8]) -> Result<(), StationFault>
         ensures taken { OnOk result ((notes : List Note)
             × TakesLine (ledger_of peer.old.station) self.new.number line.now self.old.report notes
             self.new.report
@@ -69,7 +69,7 @@ impl Import {
 
     fn report_with<D: Disk>(
         &self,
-        peer: &mut Peer<D>,
+        peer: &mut PostPeer<D>,
         number: u64,
         line: &[u8],
     ) -> Result<ImportReport, StationFault>
@@ -101,7 +101,7 @@ impl Import {
 
 // Owes a line of the open source, after a flush if no more notes may be pending.
 fn owe<D: Disk>(
-    peer: &mut Peer<D>,
+    peer: &mut PostPeer<D>,
     number: u64,
     token: &Token,
     id: &MsgId,
@@ -126,7 +126,7 @@ fn owe<D: Disk>(
 }
 
 // Closes the open source, and returns it; after a flush if no more notes may be pending.
-fn close_source<D: Disk>(peer: &mut Peer<D>) -> Result<u32, StationFault>
+fn close_source<D: Disk>(peer: &mut PostPeer<D>) -> Result<u32, StationFault>
     ensures source { IfOk result (λ source. source ≡ (ledger_of peer.old.station).closed + 1) }
     ensures closed { OnOk result
         (ledger_of peer.new.station ≡ closed (ledger_of peer.old.station)) }
@@ -146,9 +146,9 @@ fn close_source<D: Disk>(peer: &mut Peer<D>) -> Result<u32, StationFault>
 /// Closes the open source, flushes, and returns the source: from then on the next one is open, even after a crash.
 ///
 /// # Errors
-/// The errors of [`Peer::close_import`], except `Tape(PendingFull)`, because a flush makes room; those of
-/// [`Peer::flush_or_rotate`].
-pub(crate) fn close<D: Disk>(peer: &mut Peer<D>) -> Result<u32, StationFault>
+/// The errors of [`PostPeer::close_import`], except `Tape(PendingFull)`, because a flush makes room; those of
+/// [`PostPeer::flush_or_rotate`].
+pub(crate) fn close<D: Disk>(peer: &mut PostPeer<D>) -> Result<u32, StationFault>
     ensures source { IfOk result (λ source. source ≡ (ledger_of peer.old.station).closed + 1) }
     ensures closed { OnOk result
         ((ledger_of peer.new.station ≡ closed (ledger_of peer.old.station))
@@ -173,7 +173,7 @@ pub(crate) fn close<D: Disk>(peer: &mut Peer<D>) -> Result<u32, StationFault>
 /// source stays open, so that the next call with the same file goes on after what was taken in.
 pub fn take_in<D: Disk, R: Read + Drop>(
     alloc: Global,
-    peer: &mut Peer<D>,
+    peer: &mut PostPeer<D>,
     lines: &mut LineFile<R>,
 ) -> Result<ImportReport, ImportFault>
     ensures imports { (octets : List ℕ) → HasGiven lines.old [] []

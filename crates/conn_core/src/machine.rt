@@ -23,7 +23,7 @@ use crate::mode::Mode;
 use crate::options::Options;
 use crate::outcome::Outcome;
 use crate::phase::Phase;
-use crate::quiet::Clock;
+use crate::quiet::QuietClock;
 use crate::ready::Ready;
 use crate::reason::Reason;
 use bytes::{Bytes, BytesMut};
@@ -58,7 +58,7 @@ pub(crate) struct Machine {
     switch: CheckSwitch,
     // Whether a reply answered a command about a debt.
     has_answered: bool,
-    clock: Clock,
+    clock: QuietClock,
 }
 
 impl Model for Machine {
@@ -154,7 +154,7 @@ impl Machine {
             quitting: false,
             switch: CheckSwitch::new(alloc, options.check_filter)?,
             has_answered: false,
-            clock: Clock::new(),
+            clock: QuietClock::new(),
         })
     }
 

@@ -4,18 +4,18 @@ ghost use Rattle.conn_core.specs.History.{moment};
 
 // What ticks look at. The quiet moment is `None` before the first tick.
 #[derive(Debug, Drop)]
-pub(crate) struct Clock {
+pub(crate) struct QuietClock {
     // Whether a reply came in or octets went out since the last tick.
     pub(crate) stirred: bool,
     // In seconds.
     pub(crate) quiet: Option<u64>,
 }
 
-impl Clock {
+impl QuietClock {
     pub(crate) fn new() -> Self
         ensures { result ≡ record { stirred = false; quiet = None } }
     {
-        Clock {
+        QuietClock {
             stirred: false,
             quiet: None,
         }

@@ -3,7 +3,7 @@ ghost use Rattle.std.specs.Prelude.{◌≡◌, ℕ, ◌≤◌, ◌↔◌, [], No
 ghost use Rattle.std.specs.Prelude.{IfSome, OnErr, OnOk};
 ghost use Rattle.deferral.specs.Due.{IsDue, IsLeastDue, IsLeastDueFrom, IsRising, added, changed, due_of, removed};
 
-use crate::tree::{Entry, Tree};
+use crate::tree::{Tree, TreeEntry};
 use ledger_core::Key;
 use std::alloc::{AllocError, Global};
 use std::marker::Model;
@@ -60,7 +60,7 @@ impl Later {
         ensures ok { OnOk result (self.new ≡ added self.old key (Some due)) }
         ensures unchanged { OnErr result (self.new ≡ self.old) }
     {
-        let entry = Entry {
+        let entry = TreeEntry {
             key,
             due: Some(due),
         };

@@ -13,7 +13,7 @@ use std::mem;
 
 /// A key with the moment for which it waits, or none: then it is never due.
 #[derive(Clone, Copy)]
-pub struct Entry {
+pub struct TreeEntry {
     pub key: Key,
     pub due: Option<u64>,
 }
@@ -30,7 +30,7 @@ pub struct Bounds {
 #[cycle(tree)]
 #[derive(Drop)]
 pub enum Tree {
-    Leaf(Entry),
+    Leaf(TreeEntry),
     Fork(Box<Fork>),
 }
 
@@ -100,7 +100,7 @@ impl Bounds {
     }
 }
 
-impl Entry {
+impl TreeEntry {
     ghost use Rattle.deferral.specs.Tree.{IsBoundsOf};
 
     fn bounds(self) -> Bounds
@@ -191,7 +191,7 @@ impl Fork {
 
     /// Puts in a key that it does not have, on its side of the split.
     #[cycle(put)]
-    fn put(&mut self, alloc: Global, entry: Entry) -> Result<(), AllocError>
+    fn put(&mut self, alloc: Global, entry: TreeEntry) -> Result<(), AllocError>
         requires { due_of (both self.old) entry.key ≡ None }
         ensures ok { OnOk result (both self.new ≡ added (both self.old) entry.key entry.due) }
         ensures unchanged { OnErr result (both self.new ≡ both self.old) }
@@ -328,15 +328,15 @@ impl Tree {
     }
 
     /// Replaces the tree by a fork over it and a leaf beside it.
-    fn grow(&mut self, alloc: Global, entry: Entry, split: Key) -> Result<(), AllocError>
+    fn grow(&mut self, alloc: Global, entry: TreeEntry, split: Key) -> Result<(), AllocError>
         requires { IsBeside split entry.key (waiting_in self.old) }
         ensures ok { OnOk result
             (waiting_in self.new ≡ added (waiting_in self.old) entry.key entry.due) }
         ensures unchanged { OnErr result (waiting_in self.new ≡ waiting_in self.old) }
     {
-        let Entry { key, due } = entry;
-        let leaf = Tree::Leaf(Entry { key, due });
-        let old = mem::replace(self, Tree::Leaf(Entry { key, due }));
+        let TreeEntry { key, due } = entry;
+        let leaf = Tree::Leaf(TreeEntry { key, due });
+        let old = mem::replace(self, Tree::Leaf(TreeEntry { key, due }));
         let before = key.is_below(split);
         let fork = if before {
             Fork::of(split, leaf, old)
@@ -358,7 +358,7 @@ impl Tree {
 
     /// Puts in a key that it does not have.
     #[cycle(put)]
-    pub fn put(&mut self, alloc: Global, entry: Entry) -> Result<(), AllocError>
+    pub fn put(&mut self, alloc: Global, entry: TreeEntry) -> Result<(), AllocError>
         requires { due_of (waiting_in self.old) entry.key ≡ None }
         ensures ok { OnOk result
             (waiting_in self.new ≡ added (waiting_in self.old) entry.key entry.due) }
@@ -379,7 +379,7 @@ impl Tree {
         ensures had { IsSome (due_of (waiting_in self.old) key) }
         ensures new { waiting_in self.new ≡ removed (waiting_in self.old) key }
     {
-        let placeholder = Tree::Leaf(Entry { key, due: None });
+        let placeholder = Tree::Leaf(TreeEntry { key, due: None });
         match mem::replace(self, placeholder) {
             Tree::Leaf(_) => unreachable!(),
             Tree::Fork(fork) => *self = Box::into_inner(fork).other_side(key),

@@ -15,12 +15,14 @@ use Rattle.feed_conf.specs.Reading.{use_taken, step, at_line, then_on, run_line,
 use Rattle.funnel.specs.Names.{is_peer_name}
 use Rattle.feed_conf.specs.Settings.{number, later, value_at, last_value, path_of, value_along, value_of}
 use Rattle.feed_conf.specs.Bounds.{greatest, AreBounded}
-use Rattle.feed_conf.specs.declared.key.Key.{Key}
-use Rattle.feed_conf.specs.declared.key.Key.TheVariants.{IpName, PortNumber, Streaming, MaxConnections, MaxQueueSize}
-use Rattle.feed_conf.specs.declared.key.Key.TheVariants.{NoCheckHigh, NoCheckLow, NoCheckFilter, ResponseTimeout}
-use Rattle.feed_conf.specs.declared.key.Key.TheVariants.{InitialReconnectTime, MaxReconnectTime, DropDeferred}
-use Rattle.feed_conf.specs.declared.key.Key.TheVariants.{BacklogLimit, BacklogLimitHighwater, BacklogFactor, NewsSpool}
-use Rattle.feed_conf.specs.declared.key.Key.TheVariants.{BacklogDirectory, StatusFile}
+use Rattle.feed_conf.specs.declared.key.SettingKey.{SettingKey}
+use Rattle.feed_conf.specs.declared.key.SettingKey.TheVariants.{IpName, PortNumber, Streaming, MaxConnections}
+use Rattle.feed_conf.specs.declared.key.SettingKey.TheVariants.{MaxQueueSize}
+use Rattle.feed_conf.specs.declared.key.SettingKey.TheVariants.{NoCheckHigh, NoCheckLow, NoCheckFilter, ResponseTimeout}
+use Rattle.feed_conf.specs.declared.key.SettingKey.TheVariants.{InitialReconnectTime, MaxReconnectTime, DropDeferred}
+use Rattle.feed_conf.specs.declared.key.SettingKey.TheVariants.{BacklogLimit, BacklogLimitHighwater, BacklogFactor}
+use Rattle.feed_conf.specs.declared.key.SettingKey.TheVariants.{NewsSpool}
+use Rattle.feed_conf.specs.declared.key.SettingKey.TheVariants.{BacklogDirectory, StatusFile}
 use Rattle.feed_conf.specs.declared.key.Kind.{Kind}
 use Rattle.feed_conf.specs.declared.key.Kind.TheVariants.{AnyText, ShortText, Switch, Connections, Number, Whole}
 use Rattle.feed_conf.specs.declared.key.Kind.TheVariants.{Fraction}
@@ -135,7 +137,7 @@ limited-step : (limited : Bool) (more : State) (line : ℕ) (name : List ℕ) �
 limited-step true more line name h = h
 limited-step false more line name h = h
 
-take-step : (state next : State) (line : ℕ) (name : List ℕ) (key : Key) (r : Result Taken ConfFaultKind)
+take-step : (state next : State) (line : ℕ) (name : List ℕ) (key : SettingKey) (r : Result Taken ConfFaultKind)
     (octets : List ℕ) → AreBounded state.uses → taken_of (row_of key).kind octets ≡ r →
     use_taken state line name key r ≡ Ok next → AreBounded next.uses
 take-step state next line name key (Err kind) octets h t e = cc
@@ -147,20 +149,21 @@ take-step state next line name key (Ok taken) octets h t e =
     (limited-step taken.limited more line name
     (one-more state.uses entry h (taken-within (row_of key).kind octets taken t)))
 
-value-step : (state next : State) (line : ℕ) (name : List ℕ) (key : Key) (value : Option (List ℕ))
+value-step : (state next : State) (line : ℕ) (name : List ℕ) (key : SettingKey) (value : Option (List ℕ))
     → AreBounded state.uses → use_value state line name key value ≡ Ok next → AreBounded next.uses
 value-step state next line name key None h e = cc
 value-step state next line name key (Some octets) h e =
     take-step state next line name key (taken_of (row_of key).kind octets) octets h refl e
 
-file-step : (ignored : Bool) (state next : State) (line : ℕ) (name : List ℕ) (key : Key) (value : Option (List ℕ))
+file-step : (ignored : Bool) (state next : State) (line : ℕ) (name : List ℕ) (key : SettingKey) (value : Option (List
+    ℕ))
     → AreBounded state.uses →
     cond ignored (made_as (report state line name false)) (use_value state line name key value) ≡ Ok next
     → AreBounded next.uses
 file-step true state next line name key value h e = same-uses state (report state line name false) next h refl e
 file-step false state next line name key value h e = value-step state next line name key value h e
 
-key-step : (state next : State) (line : ℕ) (name : List ℕ) (value : Option (List ℕ)) (key : Option Key)
+key-step : (state next : State) (line : ℕ) (name : List ℕ) (value : Option (List ℕ)) (key : Option SettingKey)
     → AreBounded state.uses → use_key state line name value key ≡ Ok next → AreBounded next.uses
 key-step state next line name value None h e = same-uses state (report state line name false) next h refl e
 key-step state next line name value (Some key) h e =
@@ -227,7 +230,7 @@ reading-bounded lines state e =
 
 -- ---- what is looked up
 
-index-key : (key : Key) → slice_get all_keys (row_of key).index ≡ Some key
+index-key : (key : SettingKey) → slice_get all_keys (row_of key).index ≡ Some key
 index-key IpName = refl
 index-key PortNumber = refl
 index-key Streaming = refl
@@ -248,12 +251,12 @@ index-key BacklogDirectory = refl
 index-key StatusFile = refl
 
 -- no two keys have one index
-index-once : (one other : Key) → (row_of one).index ≡ (row_of other).index → one ≡ other
+index-once : (one other : SettingKey) → (row_of one).index ≡ (row_of other).index → one ≡ other
 index-once one other e =
     let both : Some one ≡ Some other = sym (index-key one) ∙ ap (slice_get all_keys) e ∙ index-key other in
     cc
 
-default-within : (key : Key) (name : List ℕ) → number ((row_of key).default name) ≤ greatest (row_of key).kind
+default-within : (key : SettingKey) (name : List ℕ) → number ((row_of key).default name) ≤ greatest (row_of key).kind
 default-within IpName name = omega arith
 default-within PortNumber name = omega arith
 default-within Streaming name = omega arith
@@ -274,25 +277,25 @@ default-within BacklogDirectory name = omega arith
 default-within StatusFile name = omega arith
 
 -- the value, if there is one, is at most the greatest of the key
-abbrev IsWithin : Key → Option Value → Type 0
+abbrev IsWithin : SettingKey → Option Value → Type 0
 IsWithin key None = Unit {0}
 IsWithin key (Some value) = number value ≤ greatest (row_of key).kind
 
-later-within : (key : Key) (one other : Option Value) → IsWithin key one → IsWithin key other
+later-within : (key : SettingKey) (one other : Option Value) → IsWithin key one → IsWithin key other
     → IsWithin key (later one other)
 later-within key None other h k = k
 later-within key (Some value) other h k = h
 
-at-step : (b : Bool) (block : ℕ) (key : Key) (entry : Use)
+at-step : (b : Bool) (block : ℕ) (key : SettingKey) (entry : Use)
     → (entry.block == block && (row_of entry.key).index == (row_of key).index) ≡ b →
     number entry.value ≤ greatest (row_of entry.key).kind → IsWithin key (cond b (Some entry.value) None)
 at-step false block key entry e h = tt
 at-step true block key entry e h =
     let indexes = (and_parts (entry.block == block) ((row_of entry.key).index == (row_of key).index) e).1 in
-    subst (λ (k : Key). number entry.value ≤ greatest (row_of k).kind)
+    subst (λ (k : SettingKey). number entry.value ≤ greatest (row_of k).kind)
     (index-once entry.key key (eqb-true (row_of entry.key).index (row_of key).index indexes)) h
 
-last-within : (uses : List Use) (block : ℕ) (key : Key) → AreBounded uses
+last-within : (uses : List Use) (block : ℕ) (key : SettingKey) → AreBounded uses
     → IsWithin key (last_value block (row_of key).index uses)
 last-within [] block key h = tt
 last-within (entry ∷ uses) block key h =
@@ -300,7 +303,7 @@ last-within (entry ∷ uses) block key h =
     (last-within uses block key h.1)
     (at-step (entry.block == block && (row_of entry.key).index == (row_of key).index) block key entry refl h.0)
 
-along-within : (uses : List Use) (path : List ℕ) (key : Key) → AreBounded uses
+along-within : (uses : List Use) (path : List ℕ) (key : SettingKey) → AreBounded uses
     → IsWithin key (value_along (row_of key).index uses path)
 along-within uses [] key h = last-within uses 0 key h
 along-within uses (block ∷ outer) key h =
@@ -308,13 +311,13 @@ along-within uses (block ∷ outer) key h =
     (last-within uses block key h)
     (along-within uses outer key h)
 
-or-default : (key : Key) (o : Option Value) (name : List ℕ) → IsWithin key o
+or-default : (key : SettingKey) (o : Option Value) (name : List ℕ) → IsWithin key o
     → number (unwrap_or o ((row_of key).default name)) ≤ greatest (row_of key).kind
 or-default key None name h = default-within key name
 or-default key (Some value) name h = h
 
 -- the number that a key has at a peer is at most the greatest of that key
-pub value-within : (uses : List Use) (outer : List ℕ) (peer : Declared) (key : Key) → AreBounded uses
+pub value-within : (uses : List Use) (outer : List ℕ) (peer : Declared) (key : SettingKey) → AreBounded uses
     → number (value_of uses outer peer key) ≤ greatest (row_of key).kind
 value-within uses outer peer key h =
     or-default key (value_along (row_of key).index uses (path_of outer peer.block)) peer.name

@@ -6,7 +6,7 @@ use Rattle.feed_conf.specs.Explanation.{place_text}
 use Rattle.feed_conf.specs.Keys.{key_of}
 use Rattle.feed_conf.specs.Reading.{Report}
 use Rattle.feed_conf.specs.Settings.{Outcome, Settings}
-use Rattle.feed_conf.specs.declared.key.Key.{Key}
+use Rattle.feed_conf.specs.declared.key.SettingKey.{SettingKey}
 
 -- settings of INN by which a connection logs in
 abbrev pub is_login : List ℕ → Bool
@@ -67,7 +67,7 @@ foreign_text name =
     codes "innfeed.conf(5) has no such setting")))))))
 
 -- what it means that a setting of this name is ignored
-abbrev pub effect_text : List ℕ → Option Key → List ℕ
+abbrev pub effect_text : List ℕ → Option SettingKey → List ℕ
 effect_text name None = foreign_text name
 effect_text name (Some key) = codes "belongs outside all blocks"
 

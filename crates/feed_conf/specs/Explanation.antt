@@ -9,7 +9,7 @@ use Rattle.feed_conf.specs.declared.fault.ConfFault.{ConfFault}
 use Rattle.feed_conf.specs.declared.fault.ConfFaultKind.{ConfFaultKind}
 use Rattle.feed_conf.specs.declared.fault.ConfFaultKind.TheVariants.{NoValue, Unbalanced, BadPeerName, SamePeer}
 use Rattle.feed_conf.specs.declared.fault.ConfFaultKind.TheVariants.{LowAboveHigh, Range}
-use Rattle.feed_conf.specs.declared.key.Key.{Key}
+use Rattle.feed_conf.specs.declared.key.SettingKey.{SettingKey}
 use Rattle.feed_conf.specs.declared.key.Kind.{Kind}
 use Rattle.feed_conf.specs.declared.key.Kind.TheVariants.{AnyText, ShortText, Switch, Connections, Number, Whole}
 use Rattle.feed_conf.specs.declared.key.Kind.TheVariants.{Fraction}
@@ -48,7 +48,7 @@ taken_text file line name kind value (Err fault) =
     place_text file line ++ name ++ codes ": " ++ reason_text kind value fault ++ 10 ∷ []
 
 -- the line on a use of a key
-abbrev pub use_text : (file : List ℕ) → (line : ℕ) → (name value : List ℕ) → Option Key → List ℕ
+abbrev pub use_text : (file : List ℕ) → (line : ℕ) → (name value : List ℕ) → Option SettingKey → List ℕ
 use_text file line name value None = []
 use_text file line name value (Some key) =
     taken_text file line name (row_of key).kind value (taken_of (row_of key).kind value)

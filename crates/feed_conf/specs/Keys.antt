@@ -3,8 +3,8 @@ use Rattle.std.specs.Prelude.{ℕ, Bool, true, false, List, [], ◌∷◌, Optio
 use Rattle.std.specs.List.{find}
 use Rattle.std.specs.Str.{bytes_eq}
 use Rattle.feed_conf.specs.Values.{Value, TextOf, SwitchOf, NumberOf}
-use Rattle.feed_conf.specs.declared.key.Key.{Key}
-use Rattle.feed_conf.specs.declared.key.Key.TheVariants.{IpName, PortNumber, Streaming, MaxConnections, MaxQueueSize, NoCheckHigh, NoCheckLow, NoCheckFilter, ResponseTimeout, InitialReconnectTime, MaxReconnectTime, DropDeferred, BacklogLimit, BacklogLimitHighwater, BacklogFactor, NewsSpool, BacklogDirectory, StatusFile}
+use Rattle.feed_conf.specs.declared.key.SettingKey.{SettingKey}
+use Rattle.feed_conf.specs.declared.key.SettingKey.TheVariants.{IpName, PortNumber, Streaming, MaxConnections, MaxQueueSize, NoCheckHigh, NoCheckLow, NoCheckFilter, ResponseTimeout, InitialReconnectTime, MaxReconnectTime, DropDeferred, BacklogLimit, BacklogLimitHighwater, BacklogFactor, NewsSpool, BacklogDirectory, StatusFile}
 use Rattle.feed_conf.specs.declared.key.Kind.{Kind}
 use Rattle.feed_conf.specs.declared.key.Kind.TheVariants.{AnyText, ShortText, Switch, Connections, Number, Whole, Fraction}
 
@@ -19,7 +19,7 @@ pub record Row : Type 0 where
   -- its value at a peer of this name, if no use of the key counts
   pub default : List ℕ → Value
 
-abbrev pub row_of : Key → Row
+abbrev pub row_of : SettingKey → Row
 row_of IpName = record { index = 0; name = codes "ip-name"; kind = ShortText; of_file = false; default = λ peer. TextOf peer }
 row_of PortNumber = record { index = 1; name = codes "port-number"; kind = Number 1 65535; of_file = false; default = λ peer. NumberOf 119 }
 row_of Streaming = record { index = 2; name = codes "streaming"; kind = Switch; of_file = false; default = λ peer. SwitchOf true }
@@ -39,9 +39,9 @@ row_of NewsSpool = record { index = 15; name = codes "news-spool"; kind = AnyTex
 row_of BacklogDirectory = record { index = 16; name = codes "backlog-directory"; kind = AnyText; of_file = true; default = λ peer. TextOf (codes "innfeed") }
 row_of StatusFile = record { index = 17; name = codes "status-file"; kind = AnyText; of_file = true; default = λ peer. TextOf (codes "innfeed.status") }
 
-abbrev pub all_keys : List Key
+abbrev pub all_keys : List SettingKey
 all_keys =
     IpName ∷ PortNumber ∷ Streaming ∷ MaxConnections ∷ MaxQueueSize ∷ NoCheckHigh ∷ NoCheckLow ∷ NoCheckFilter ∷ ResponseTimeout ∷ InitialReconnectTime ∷ MaxReconnectTime ∷ DropDeferred ∷ BacklogLimit ∷ BacklogLimitHighwater ∷ BacklogFactor ∷ NewsSpool ∷ BacklogDirectory ∷ StatusFile ∷ []
 
-abbrev pub key_of : List ℕ → Option Key
+abbrev pub key_of : List ℕ → Option SettingKey
 key_of name = find (λ key. bytes_eq (row_of key).name name) all_keys

@@ -8,7 +8,7 @@ use Rattle.feed_conf.specs.Lexemes.{Lexeme, HasLexemes}
 use Rattle.feed_conf.specs.Items.{Item, Peer, Group, Closes, Uses, Stops, Nothing, items}
 use Rattle.feed_conf.specs.Keys.{row_of, key_of}
 use Rattle.feed_conf.specs.Values.{Value, Taken, taken_of}
-use Rattle.feed_conf.specs.declared.key.Key.{Key}
+use Rattle.feed_conf.specs.declared.key.SettingKey.{SettingKey}
 use Rattle.feed_conf.specs.declared.reader.OpenBlock.{OpenBlock}
 use Rattle.feed_conf.specs.declared.fault.ConfFault.{ConfFault}
 use Rattle.feed_conf.specs.declared.fault.ConfFaultKind.{ConfFaultKind}
@@ -17,7 +17,7 @@ use Rattle.feed_conf.specs.declared.fault.ConfFaultKind.TheVariants.{NoValue, Un
 -- A use of a key of the profile that counts, with the number of its block, 0 for the scope of the file.
 pub record Use : Type 0 where
   pub block : ℕ
-  pub key : Key
+  pub key : SettingKey
   pub value : Value
 
 -- a declared peer, with the line of its declaration and the number of its own block
@@ -97,7 +97,7 @@ declare_peer state line name braced =
     if is_declared name state.peers then Err SamePeer else (
     if braced then Ok (declare state line name) else Err Unbalanced)))
 
-abbrev pub use_taken : State → ℕ → List ℕ → Key → Result Taken ConfFaultKind → Result State ConfFaultKind
+abbrev pub use_taken : State → ℕ → List ℕ → SettingKey → Result Taken ConfFaultKind → Result State ConfFaultKind
 use_taken state line name key (Err kind) = Err kind
 use_taken state line name key (Ok taken) =
     let next =
@@ -107,12 +107,12 @@ use_taken state line name key (Ok taken) =
     } in
     Ok (if taken.limited then report next line name true else next)
 
-abbrev pub use_value : State → ℕ → List ℕ → Key → Option (List ℕ) → Result State ConfFaultKind
+abbrev pub use_value : State → ℕ → List ℕ → SettingKey → Option (List ℕ) → Result State ConfFaultKind
 use_value state line name key None = Err NoValue
 use_value state line name key (Some value) = use_taken state line name key (taken_of (row_of key).kind value)
 
 -- a key outside the profile is ignored, and so is a key of the file inside a block
-abbrev pub use_key : State → ℕ → List ℕ → Option (List ℕ) → Option Key → Result State ConfFaultKind
+abbrev pub use_key : State → ℕ → List ℕ → Option (List ℕ) → Option SettingKey → Result State ConfFaultKind
 use_key state line name value None = Ok (report state line name false)
 use_key state line name value (Some key) =
     if (row_of key).of_file && is_in_block (innermost state.around) then Ok

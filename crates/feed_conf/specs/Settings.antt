@@ -6,12 +6,14 @@ use Rattle.feed_conf.specs.Lexemes.{Lexeme}
 use Rattle.feed_conf.specs.Keys.{row_of}
 use Rattle.feed_conf.specs.Values.{Value, TextOf, SwitchOf, NumberOf}
 use Rattle.feed_conf.specs.Reading.{Use, Declared, Report, State, reading}
-use Rattle.feed_conf.specs.declared.key.Key.{Key}
-use Rattle.feed_conf.specs.declared.key.Key.TheVariants.{IpName, PortNumber, Streaming, MaxConnections, MaxQueueSize}
-use Rattle.feed_conf.specs.declared.key.Key.TheVariants.{NoCheckHigh, NoCheckLow, NoCheckFilter, ResponseTimeout}
-use Rattle.feed_conf.specs.declared.key.Key.TheVariants.{InitialReconnectTime, MaxReconnectTime, DropDeferred}
-use Rattle.feed_conf.specs.declared.key.Key.TheVariants.{BacklogLimit, BacklogLimitHighwater, BacklogFactor, NewsSpool}
-use Rattle.feed_conf.specs.declared.key.Key.TheVariants.{BacklogDirectory, StatusFile}
+use Rattle.feed_conf.specs.declared.key.SettingKey.{SettingKey}
+use Rattle.feed_conf.specs.declared.key.SettingKey.TheVariants.{IpName, PortNumber, Streaming, MaxConnections}
+use Rattle.feed_conf.specs.declared.key.SettingKey.TheVariants.{MaxQueueSize}
+use Rattle.feed_conf.specs.declared.key.SettingKey.TheVariants.{NoCheckHigh, NoCheckLow, NoCheckFilter, ResponseTimeout}
+use Rattle.feed_conf.specs.declared.key.SettingKey.TheVariants.{InitialReconnectTime, MaxReconnectTime, DropDeferred}
+use Rattle.feed_conf.specs.declared.key.SettingKey.TheVariants.{BacklogLimit, BacklogLimitHighwater, BacklogFactor}
+use Rattle.feed_conf.specs.declared.key.SettingKey.TheVariants.{NewsSpool}
+use Rattle.feed_conf.specs.declared.key.SettingKey.TheVariants.{BacklogDirectory, StatusFile}
 use Rattle.feed_conf.specs.declared.fault.ConfFault.{ConfFault}
 use Rattle.feed_conf.specs.declared.fault.ConfFaultKind.TheVariants.{LowAboveHigh}
 
@@ -52,12 +54,12 @@ value_along index uses (block ∷ outer) = later (last_value block index uses) (
 
 -- The value of a key at a peer: the last use in its own block, otherwise in the innermost group around it, and so
 -- outward, otherwise in the scope of the file, otherwise the default.
-abbrev pub value_of : List Use → (outer : List ℕ) → Declared → Key → Value
+abbrev pub value_of : List Use → (outer : List ℕ) → Declared → SettingKey → Value
 value_of uses outer peer key =
     unwrap_or (value_along (row_of key).index uses (path_of outer peer.block)) ((row_of key).default peer.name)
 
 -- the value of a key that is allowed only outside all blocks
-abbrev pub value_in_file : List Use → Key → Value
+abbrev pub value_in_file : List Use → SettingKey → Value
 value_in_file uses key = unwrap_or (last_value 0 (row_of key).index uses) ((row_of key).default [])
 
 -- the content of a value (each key has values of one kind alone)

@@ -30,7 +30,7 @@ pub(crate) enum Kind {
 
 /// A key of the profile (innfeed.conf(5)).
 #[derive(Clone, Copy)]
-pub(crate) enum Key {
+pub(crate) enum SettingKey {
     /// The host to connect to.
     IpName,
     PortNumber,
@@ -68,25 +68,25 @@ pub(crate) enum Key {
     StatusFile,
 }
 
-const KEYS: [Key; 18] = [
-    Key::IpName,
-    Key::PortNumber,
-    Key::Streaming,
-    Key::MaxConnections,
-    Key::MaxQueueSize,
-    Key::NoCheckHigh,
-    Key::NoCheckLow,
-    Key::NoCheckFilter,
-    Key::ResponseTimeout,
-    Key::InitialReconnectTime,
-    Key::MaxReconnectTime,
-    Key::DropDeferred,
-    Key::BacklogLimit,
-    Key::BacklogLimitHighwater,
-    Key::BacklogFactor,
-    Key::NewsSpool,
-    Key::BacklogDirectory,
-    Key::StatusFile,
+const KEYS: [SettingKey; 18] = [
+    SettingKey::IpName,
+    SettingKey::PortNumber,
+    SettingKey::Streaming,
+    SettingKey::MaxConnections,
+    SettingKey::MaxQueueSize,
+    SettingKey::NoCheckHigh,
+    SettingKey::NoCheckLow,
+    SettingKey::NoCheckFilter,
+    SettingKey::ResponseTimeout,
+    SettingKey::InitialReconnectTime,
+    SettingKey::MaxReconnectTime,
+    SettingKey::DropDeferred,
+    SettingKey::BacklogLimit,
+    SettingKey::BacklogLimitHighwater,
+    SettingKey::BacklogFactor,
+    SettingKey::NewsSpool,
+    SettingKey::BacklogDirectory,
+    SettingKey::StatusFile,
 ];
 
 #[derive(Clone, Copy)]
@@ -161,35 +161,45 @@ fn file_text(index: usize, name: &'static [u8], default: &'static [u8]) -> Row
     }
 }
 
-impl Key {
+impl SettingKey {
     fn row(self) -> Row
         ensures { row_view result ≡ row_of self }
     {
         match self {
-            Key::IpName => Row {
+            SettingKey::IpName => Row {
                 index: 0,
                 name: b"ip-name",
                 kind: Kind::ShortText,
                 of_file: false,
                 default: None,
             },
-            Key::PortNumber => number(1, b"port-number", Kind::Number(1, 65_535), 119),
-            Key::Streaming => switch(2, b"streaming", true),
-            Key::MaxConnections => number(3, b"max-connections", Kind::Connections, 2),
-            Key::MaxQueueSize => number(4, b"max-queue-size", Kind::Number(1, 1_000), 20),
-            Key::NoCheckHigh => number(5, b"no-check-high", Kind::Fraction(0, 10_000), 9_500),
-            Key::NoCheckLow => number(6, b"no-check-low", Kind::Fraction(0, 10_000), 9_000),
-            Key::NoCheckFilter => number(7, b"no-check-filter", Kind::Whole(1, 1_000), 50),
-            Key::ResponseTimeout => number(8, b"response-timeout", SECONDS, 300),
-            Key::InitialReconnectTime => number(9, b"initial-reconnect-time", SECONDS, 30),
-            Key::MaxReconnectTime => number(10, b"max-reconnect-time", SECONDS, 3_600),
-            Key::DropDeferred => switch(11, b"drop-deferred", false),
-            Key::BacklogLimit => number(12, b"backlog-limit", OCTETS, 0),
-            Key::BacklogLimitHighwater => number(13, b"backlog-limit-highwater", OCTETS, 0),
-            Key::BacklogFactor => number(14, b"backlog-factor", Kind::Fraction(100, 10_000), 110),
-            Key::NewsSpool => file_text(15, b"news-spool", b"articles"),
-            Key::BacklogDirectory => file_text(16, b"backlog-directory", b"innfeed"),
-            Key::StatusFile => file_text(17, b"status-file", b"innfeed.status"),
+            SettingKey::PortNumber => number(1, b"port-number", Kind::Number(1, 65_535), 119),
+            SettingKey::Streaming => switch(2, b"streaming", true),
+            SettingKey::MaxConnections => number(3, b"max-connections", Kind::Connections, 2),
+            SettingKey::MaxQueueSize => number(4, b"max-queue-size", Kind::Number(1, 1_000), 20),
+            SettingKey::NoCheckHigh => number(
+                5,
+                b"no-check-high",
+                Kind::Fraction(0, 10_000),
+                9_500,
+            ),
+            SettingKey::NoCheckLow => number(6, b"no-check-low", Kind::Fraction(0, 10_000), 9_000),
+            SettingKey::NoCheckFilter => number(7, b"no-check-filter", Kind::Whole(1, 1_000), 50),
+            SettingKey::ResponseTimeout => number(8, b"response-timeout", SECONDS, 300),
+            SettingKey::InitialReconnectTime => number(9, b"initial-reconnect-time", SECONDS, 30),
+            SettingKey::MaxReconnectTime => number(10, b"max-reconnect-time", SECONDS, 3_600),
+            SettingKey::DropDeferred => switch(11, b"drop-deferred", false),
+            SettingKey::BacklogLimit => number(12, b"backlog-limit", OCTETS, 0),
+            SettingKey::BacklogLimitHighwater => number(13, b"backlog-limit-highwater", OCTETS, 0),
+            SettingKey::BacklogFactor => number(
+                14,
+                b"backlog-factor",
+                Kind::Fraction(100, 10_000),
+                110,
+            ),
+            SettingKey::NewsSpool => file_text(15, b"news-spool", b"articles"),
+            SettingKey::BacklogDirectory => file_text(16, b"backlog-directory", b"innfeed"),
+            SettingKey::StatusFile => file_text(17, b"status-file", b"innfeed.status"),
         }
     }
 
@@ -230,7 +240,7 @@ impl Key {
     }
 }
 
-pub(crate) fn find_key(name: &[u8]) -> Option<Key>
+pub(crate) fn find_key(name: &[u8]) -> Option<SettingKey>
     ensures { result ≡ key_of name.now }
 {
     KEYS.iter().copied().find(|key| is_text(key.name(), name))

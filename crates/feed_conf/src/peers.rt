@@ -11,7 +11,7 @@ ghost use Rattle.feed_conf.specs.PeerView.{Judges, settings_view};
 
 use crate::conf::PeerConf;
 use crate::fault::{ConfFault, ConfFaultKind};
-use crate::key::Key;
+use crate::key::SettingKey;
 use crate::reader::Declared;
 use crate::table::Table;
 use std::alloc::Global;
@@ -40,26 +40,26 @@ fn peer_conf(
         ≡ settings_of uses outer.now (declared_view peer.now)) }
     ensures fault { IfErr result (λ kind. kind ≡ NoMemory) }
 {
-    let written = table.number(outer, peer, Key::BacklogLimitHighwater);
-    let backlog_limit = table.number(outer, peer, Key::BacklogLimit);
-    let factor = table.number(outer, peer, Key::BacklogFactor);
+    let written = table.number(outer, peer, SettingKey::BacklogLimitHighwater);
+    let backlog_limit = table.number(outer, peer, SettingKey::BacklogLimit);
+    let factor = table.number(outer, peer, SettingKey::BacklogFactor);
     let backlog_high = high_water(written, backlog_limit, factor);
     let name = peer.name.clone()?;
-    let ip_name = table.text(alloc, outer, peer, Key::IpName)?;
+    let ip_name = table.text(alloc, outer, peer, SettingKey::IpName)?;
     Ok(PeerConf {
         name,
         ip_name,
-        port: table.number(outer, peer, Key::PortNumber),
-        streaming: table.switch(outer, peer, Key::Streaming),
-        max_connections: table.number(outer, peer, Key::MaxConnections),
-        max_queue: table.number(outer, peer, Key::MaxQueueSize),
-        check_high: table.number(outer, peer, Key::NoCheckHigh),
-        check_low: table.number(outer, peer, Key::NoCheckLow),
-        check_filter: table.number(outer, peer, Key::NoCheckFilter),
-        response_timeout: table.number(outer, peer, Key::ResponseTimeout),
-        first_wait: table.number(outer, peer, Key::InitialReconnectTime),
-        most_wait: table.number(outer, peer, Key::MaxReconnectTime),
-        drop_deferred: table.switch(outer, peer, Key::DropDeferred),
+        port: table.number(outer, peer, SettingKey::PortNumber),
+        streaming: table.switch(outer, peer, SettingKey::Streaming),
+        max_connections: table.number(outer, peer, SettingKey::MaxConnections),
+        max_queue: table.number(outer, peer, SettingKey::MaxQueueSize),
+        check_high: table.number(outer, peer, SettingKey::NoCheckHigh),
+        check_low: table.number(outer, peer, SettingKey::NoCheckLow),
+        check_filter: table.number(outer, peer, SettingKey::NoCheckFilter),
+        response_timeout: table.number(outer, peer, SettingKey::ResponseTimeout),
+        first_wait: table.number(outer, peer, SettingKey::InitialReconnectTime),
+        most_wait: table.number(outer, peer, SettingKey::MaxReconnectTime),
+        drop_deferred: table.switch(outer, peer, SettingKey::DropDeferred),
         backlog_limit,
         backlog_high,
     })

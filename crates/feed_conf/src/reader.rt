@@ -14,7 +14,7 @@ ghost use Rattle.feed_conf.specs.ValueView.{taken_view};
 use crate::conf::Ignored;
 use crate::fault::ConfFaultKind;
 use crate::item::Item;
-use crate::key::{Key, find_key};
+use crate::key::{SettingKey, find_key};
 use crate::value::{Taken, Value, take_value};
 use funnel::PeerName;
 use std::alloc::Global;
@@ -35,7 +35,7 @@ pub(crate) struct OpenBlock {
 pub(crate) struct Use<'t> {
     /// The number of its block, 0 for the scope of the file.
     pub(crate) block: usize,
-    pub(crate) key: Key,
+    pub(crate) key: SettingKey,
     pub(crate) value: Value<'t>,
 }
 
@@ -234,7 +234,7 @@ impl<'t> Reader<'t> {
         mut self,
         line: u64,
         name: &'t [u8],
-        key: Key,
+        key: SettingKey,
         taken: Taken<'t>,
     ) -> Result<Self, ConfFaultKind>
         ensures state { Steps (use_taken (reader_view self.entry) line name.now key
@@ -261,7 +261,7 @@ impl<'t> Reader<'t> {
         self,
         line: u64,
         name: &'t [u8],
-        key: Key,
+        key: SettingKey,
         value: Option<&'t [u8]>,
     ) -> Result<Self, ConfFaultKind>
         ensures state { Steps (use_value (reader_view self.entry) line name.now key

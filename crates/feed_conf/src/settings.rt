@@ -9,7 +9,7 @@ ghost use Rattle.feed_conf.specs.ConfView.{Makes};
 
 use crate::conf::Conf;
 use crate::fault::ConfFault;
-use crate::key::Key;
+use crate::key::SettingKey;
 use crate::peers::peer_confs;
 use crate::read::read_text;
 use crate::reader::Reader;
@@ -23,9 +23,9 @@ fn make_conf(alloc: Global, reader: Reader<'_>) -> Result<Conf, ConfFault>
 {
     let table = table_of(alloc, &reader.uses)?;
     let peers = peer_confs(alloc, &table, &reader.outer, &reader.peers)?;
-    let news_spool = table.file_text(alloc, Key::NewsSpool)?;
-    let backlog_directory = table.file_text(alloc, Key::BacklogDirectory)?;
-    let status_file = table.file_text(alloc, Key::StatusFile)?;
+    let news_spool = table.file_text(alloc, SettingKey::NewsSpool)?;
+    let backlog_directory = table.file_text(alloc, SettingKey::BacklogDirectory)?;
+    let status_file = table.file_text(alloc, SettingKey::StatusFile)?;
     let Reader {
         alloc: _,
         around: _,

@@ -9,7 +9,7 @@ ghost use Rattle.feed_conf.specs.Settings.{value_in_file, value_of};
 ghost use Rattle.feed_conf.specs.TableView.{IsTableOf, uses_view};
 ghost use Rattle.feed_conf.specs.ValueView.{value_view};
 
-use crate::key::Key;
+use crate::key::SettingKey;
 use crate::reader::{Declared, Use};
 use crate::value::Value;
 use std::alloc::{AllocError, Global};
@@ -44,7 +44,7 @@ fn block_around(outer: &[usize], block: usize) -> usize
 }
 
 impl<'t> Table<'t> {
-    fn last_value(&self, block: usize, key: Key) -> Option<Value<'t>>
+    fn last_value(&self, block: usize, key: SettingKey) -> Option<Value<'t>>
         ensures { (uses : List Noted) → IsTableOf self.now uses
             → option_map value_view result ≡ last_value block (row_of key).index uses }
     {
@@ -52,7 +52,7 @@ impl<'t> Table<'t> {
     }
 
     // The value of a key in a block, otherwise in the blocks around it, from the inside out.
-    fn value_along(&self, outer: &[usize], block: usize, key: Key) -> Option<Value<'t>>
+    fn value_along(&self, outer: &[usize], block: usize, key: SettingKey) -> Option<Value<'t>>
         ensures { (uses : List Noted) → IsTableOf self.now uses
             → option_map value_view result
             ≡ value_along (row_of key).index uses (path_of outer.now block) }
@@ -70,7 +70,7 @@ impl<'t> Table<'t> {
         self.last_value(0, key)
     }
 
-    pub(crate) fn number(&self, outer: &[usize], peer: &Declared, key: Key) -> u64
+    pub(crate) fn number(&self, outer: &[usize], peer: &Declared, key: SettingKey) -> u64
         ensures { (uses : List Noted) → IsTableOf self.now uses
             → result ≡ number (value_of uses outer.now (declared_view peer.now) key) }
     {
@@ -82,7 +82,7 @@ impl<'t> Table<'t> {
         }
     }
 
-    pub(crate) fn switch(&self, outer: &[usize], peer: &Declared, key: Key) -> bool
+    pub(crate) fn switch(&self, outer: &[usize], peer: &Declared, key: SettingKey) -> bool
         ensures { (uses : List Noted) → IsTableOf self.now uses
             → result ≡ switch (value_of uses outer.now (declared_view peer.now) key) }
     {
@@ -99,7 +99,7 @@ impl<'t> Table<'t> {
         alloc: Global,
         outer: &[usize],
         peer: &Declared,
-        key: Key,
+        key: SettingKey,
     ) -> Result<Vec<u8>, AllocError>
         ensures { (uses : List Noted) → IsTableOf self.now uses
             → IfOk result (λ v. v.items
@@ -113,7 +113,7 @@ impl<'t> Table<'t> {
         }
     }
 
-    pub(crate) fn file_text(&self, alloc: Global, key: Key) -> Result<Vec<u8>, AllocError>
+    pub(crate) fn file_text(&self, alloc: Global, key: SettingKey) -> Result<Vec<u8>, AllocError>
         ensures { (uses : List Noted) → IsTableOf self.now uses
             → IfOk result (λ v. v.items ≡ text (value_in_file uses key)) }
     {

@@ -7,7 +7,7 @@ use crate::run_error::RunError;
 use backlog_files::{BacklogFault, BacklogFiles, Imported};
 use cli::Source;
 use disk_model::{FileDisk, TapeDirectory, TapeFile};
-use flusher::Peer;
+use flusher::PostPeer;
 use log::{Log, info, warn};
 use std::alloc::{AllocError, Global};
 use std::fs::File;
@@ -33,7 +33,7 @@ pub(crate) fn take_backlogs<R: Log, F: AllocGlobal + Files<File = File>>(
     tapes: &TapeDirectory,
     directory: &str,
     others: OtherFiles<'_>,
-    peers: &mut [Peer<FileDisk<TapeFile>>],
+    peers: &mut [PostPeer<FileDisk<TapeFile>>],
 ) -> Result<(), RunError> {
     let backlogs = backlog_files(files, tapes, directory, others)?;
     for peer in peers {
@@ -57,8 +57,8 @@ pub(crate) fn take_backlogs<R: Log, F: AllocGlobal + Files<File = File>>(
 pub(crate) fn flush_stations<R: Log>(
     rt: &R,
     alloc: Global,
-    peers: Vec<Peer<FileDisk<TapeFile>>>,
-) -> Result<Vec<Peer<FileDisk<TapeFile>>>, RunError>
+    peers: Vec<PostPeer<FileDisk<TapeFile>>>,
+) -> Result<Vec<PostPeer<FileDisk<TapeFile>>>, RunError>
     ensures { IfOk result (λ flushed. All (λ p. IsFlushed p.station) flushed.items) }
 {
     let mut flushed = Vec::new(alloc);

@@ -22,7 +22,7 @@ use disk_model::{Disk, FileDisk, TapeDirectory, TapeFile};
 use feed_conf::{Conf, PeerConf};
 use feeder::{Feeder, FeederFault, PeerTarget, Spool, UnreadPaths};
 use flusher::{
-    Blanks, FeederShare, Flusher, Free, Naming, NoThread, Peer, Post, PostFault, Signals,
+    Blanks, FeederShare, Flusher, Free, Naming, NoThread, Post, PostFault, PostPeer, Signals,
     run_threads,
 };
 use funnel::PeerName;
@@ -210,7 +210,7 @@ fn work<
 >(
     env: &RunEnv<'_, R, F, H, C, L>,
     prepared: Prepared<'_, S, F>,
-    stations: Vec<Peer<FileDisk<TapeFile>>>,
+    stations: Vec<PostPeer<FileDisk<TapeFile>>>,
     intake: Tape<FileDisk<TapeFile>>,
     blanks: Blanks,
     out: &mut W,

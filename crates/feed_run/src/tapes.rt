@@ -3,7 +3,7 @@ use crate::disks::{Disks, open_disks};
 use crate::run_error::{INTAKE, RunError};
 use disk_model::{FileDisk, TapeDirectory, TapeFile};
 use feed_conf::PeerConf;
-use flusher::Peer;
+use flusher::PostPeer;
 use peer_queue::Limits;
 use recovery::Tape;
 use std::alloc::Global;
@@ -17,7 +17,7 @@ type TapeFiles = (FileDisk<TapeFile>, FileDisk<TapeFile>);
 #[derive(Drop)]
 pub(crate) struct Tapes {
     pub directory: TapeDirectory,
-    pub peers: Vec<Peer<FileDisk<TapeFile>>>,
+    pub peers: Vec<PostPeer<FileDisk<TapeFile>>>,
     pub intake: Tape<FileDisk<TapeFile>>,
 }
 
@@ -60,14 +60,14 @@ fn open_peer(
     alloc: Global,
     conf: &PeerConf,
     files: TapeFiles,
-) -> Result<Peer<FileDisk<TapeFile>>, RunError> {
+) -> Result<PostPeer<FileDisk<TapeFile>>, RunError> {
     let limits = Limits {
         backlog_limit: conf.backlog_limit,
         backlog_high: conf.backlog_high,
         drop_deferred: conf.drop_deferred,
     };
     let (a, b) = files;
-    match Peer::open(alloc, conf.name.clone()?, a, b, limits) {
+    match PostPeer::open(alloc, conf.name.clone()?, a, b, limits) {
         Ok(peer) => Ok(peer),
         Err(refused) => Err(RunError::tape(alloc, conf.name.bytes(), refused.fault)),
     }

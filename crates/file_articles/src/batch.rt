@@ -1,6 +1,6 @@
 // The articles of the batch, one after another.
 use crate::directory::Directory;
-use crate::fault::Fault;
+use crate::fault::FilingFault;
 use rnews::{Waiting, article_length, message_id};
 use std::alloc::Global;
 use std::io::{BufRead, BufReader, ErrorKind, Read, Write};
@@ -28,10 +28,10 @@ pub fn file_all<R: AllocGlobal + Input + Print + Files<File: Write>>(
     rt: &R,
     directory: &str,
     waiting: Waiting,
-) -> Result<(), Fault> {
+) -> Result<(), FilingFault> {
     let alloc = rt.alloc();
     let Ok(mut reader) = BufReader::with_capacity(alloc, ROOM, rt.reader()) else {
-        return Err(Fault::NoMemory);
+        return Err(FilingFault::NoMemory);
     };
     let mut filer = Filer {
         waiting,
@@ -45,7 +45,7 @@ impl Filer<'_> {
         &mut self,
         rt: &R,
         reader: &mut B,
-    ) -> Result<(), Fault> {
+    ) -> Result<(), FilingFault> {
         let mut article = Vec::new(rt.alloc());
         for count in 0..u64::MAX {
             let Some(length) = next_length(rt.alloc(), reader, count)? else {
@@ -62,7 +62,7 @@ impl Filer<'_> {
         &mut self,
         rt: &R,
         article: &[u8],
-    ) -> Result<(), Fault> {
+    ) -> Result<(), FilingFault> {
         let Some(id) = message_id(rt.alloc(), article)? else {
             return Ok(());
         };
@@ -78,20 +78,20 @@ fn next_length<B: BufRead>(
     alloc: Global,
     reader: &mut B,
     count: u64,
-) -> Result<Option<u64>, Fault> {
+) -> Result<Option<u64>, FilingFault> {
     let mut line = Vec::new(alloc);
     if let Err(reason) = reader.take(LONGEST_LINE).read_until(b'\n', &mut line) {
-        return Err(Fault::unread(alloc, "standard input", reason));
+        return Err(FilingFault::unread(alloc, "standard input", reason));
     }
     if line.is_empty() {
         return Ok(None);
     }
     let Some(line) = line.strip_suffix(b"\n") else {
-        return Err(Fault::Line(count));
+        return Err(FilingFault::Line(count));
     };
     match article_length(line) {
         Some(length) => Ok(Some(length)),
-        None => Err(Fault::Line(count)),
+        None => Err(FilingFault::Line(count)),
     }
 }
 
@@ -101,11 +101,11 @@ fn read_article<B: BufRead>(
     reader: &mut B,
     length: u64,
     article: &mut Vec<u8>,
-) -> Result<(), Fault> {
+) -> Result<(), FilingFault> {
     article.clear();
     match reader.take(length).read_to_end(article) {
         Ok(count) if count as u64 == length => Ok(()),
-        Ok(_) => Err(Fault::Cut),
-        Err(reason) => Err(Fault::unread(alloc, "standard input", reason)),
+        Ok(_) => Err(FilingFault::Cut),
+        Err(reason) => Err(FilingFault::unread(alloc, "standard input", reason)),
     }
 }

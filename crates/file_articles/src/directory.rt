@@ -1,5 +1,5 @@
 // The directory in which articles are filed.
-use crate::fault::Fault;
+use crate::fault::FilingFault;
 use funnel::Token;
 use std::alloc::{AllocError, Global};
 use std::fs::{self, OpenOptions};
@@ -31,7 +31,7 @@ impl<'a> Directory<'a> {
         rt: &R,
         token: &Token,
         article: &[u8],
-    ) -> Result<(), Fault> {
+    ) -> Result<(), FilingFault> {
         let path = path_of(self.alloc, self.path, token)?;
         let line = line_of(self.alloc, token)?;
         let made = OpenOptions::new()
@@ -40,14 +40,14 @@ impl<'a> Directory<'a> {
             .open(rt, path.as_str());
         let mut file = match made {
             Ok(file) => file,
-            Err(reason) => return Err(Fault::unwritten(self.alloc, path.as_str(), reason)),
+            Err(reason) => return Err(FilingFault::unwritten(self.alloc, path.as_str(), reason)),
         };
         let fault = match file.write_all(article) {
             Ok(()) => match rt.write_all(&line) {
                 Ok(()) => return Ok(()),
-                Err(reason) => Fault::unwritten(self.alloc, "standard output", reason),
+                Err(reason) => FilingFault::unwritten(self.alloc, "standard output", reason),
             },
-            Err(reason) => Fault::unwritten(self.alloc, path.as_str(), reason),
+            Err(reason) => FilingFault::unwritten(self.alloc, path.as_str(), reason),
         };
         let _ = fs::remove_file(rt, path.as_str());
         Err(fault)
@@ -61,7 +61,7 @@ fn line_of(alloc: Global, token: &Token) -> Result<Vec<u8>, AllocError> {
 }
 
 // DIRECTORY/TOKEN.
-fn path_of(alloc: Global, directory: &str, token: &Token) -> Result<String, Fault> {
+fn path_of(alloc: Global, directory: &str, token: &Token) -> Result<String, FilingFault> {
     let mut path = String::from_str(alloc, directory)?;
     path.push_str("/")?;
     // A token is ASCII.

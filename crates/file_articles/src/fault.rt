@@ -5,7 +5,7 @@ use thiserror::Error;
 
 /// Why a run ends before the batch does.
 #[derive(Debug, Drop, Error)]
-pub enum Fault {
+pub enum FilingFault {
     /// The arguments of the command line are wrong.
     #[error("usage: file-articles DIRECTORY LINES")]
     Usage,
@@ -29,35 +29,35 @@ pub enum Fault {
     NoMemory,
 }
 
-impl From<AllocError> for Fault {
+impl From<AllocError> for FilingFault {
     fn from(_refused: AllocError) -> Self {
-        Fault::NoMemory
+        FilingFault::NoMemory
     }
 }
 
-impl Fault {
+impl FilingFault {
     /// The fault if the file at this path could not be read: `NoMemory` if memory was refused.
     pub fn unread(alloc: Global, path: &str, reason: io::Error) -> Self {
         match (reason.kind(), String::from_str(alloc, path)) {
-            (ErrorKind::OutOfMemory, _) | (_, Err(_)) => Fault::NoMemory,
-            (_, Ok(path)) => Fault::Unread { path, reason },
+            (ErrorKind::OutOfMemory, _) | (_, Err(_)) => FilingFault::NoMemory,
+            (_, Ok(path)) => FilingFault::Unread { path, reason },
         }
     }
 
     /// The fault if the file at this path could not be written: `NoMemory` if memory was refused.
     pub fn unwritten(alloc: Global, path: &str, reason: io::Error) -> Self {
         match (reason.kind(), String::from_str(alloc, path)) {
-            (ErrorKind::OutOfMemory, _) | (_, Err(_)) => Fault::NoMemory,
-            (_, Ok(path)) => Fault::Unwritten { path, reason },
+            (ErrorKind::OutOfMemory, _) | (_, Err(_)) => FilingFault::NoMemory,
+            (_, Ok(path)) => FilingFault::Unwritten { path, reason },
         }
     }
 
     pub fn status(&self) -> u8 {
         match self {
-            Fault::Line(_) | Fault::Cut => 1,
-            Fault::Usage => 2,
-            Fault::Unread { .. } | Fault::Unwritten { .. } | Fault::Closed => 4,
-            Fault::NoMemory => 5,
+            FilingFault::Line(_) | FilingFault::Cut => 1,
+            FilingFault::Usage => 2,
+            FilingFault::Unread { .. } | FilingFault::Unwritten { .. } | FilingFault::Closed => 4,
+            FilingFault::NoMemory => 5,
         }
     }
 }

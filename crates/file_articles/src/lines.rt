@@ -1,5 +1,5 @@
 // The funnel lines, which say which tokens wait for an article.
-use crate::fault::Fault;
+use crate::fault::FilingFault;
 use funnel::{LineFault, Token, read_line};
 use rnews::Waiting;
 use std::alloc::{AllocError, Global};
@@ -20,23 +20,23 @@ const LAST: i32 = 2;
 pub fn read_lines<R: AllocGlobal + Files<File = File>>(
     rt: &R,
     path: &str,
-) -> Result<Waiting, Fault> {
+) -> Result<Waiting, FilingFault> {
     let alloc = rt.alloc();
     let mut file = match File::open(rt, path) {
         Ok(file) => file,
-        Err(reason) => return Err(Fault::unread(alloc, path, reason)),
+        Err(reason) => return Err(FilingFault::unread(alloc, path, reason)),
     };
     if file.as_raw_fd() <= LAST {
-        return Err(Fault::Closed);
+        return Err(FilingFault::Closed);
     }
     let mut text = Vec::new(alloc);
     match file.read_to_end(&mut text) {
         Ok(_) => waiting_of(alloc, &text),
-        Err(reason) => Err(Fault::unread(alloc, path, reason)),
+        Err(reason) => Err(FilingFault::unread(alloc, path, reason)),
     }
 }
 
-fn waiting_of(alloc: Global, text: &[u8]) -> Result<Waiting, Fault> {
+fn waiting_of(alloc: Global, text: &[u8]) -> Result<Waiting, FilingFault> {
     let mut waiting = Waiting::new(alloc);
     let mut known = BTreeSet::new(alloc);
     for line in text.split(|octet| *octet == b'\n') {
@@ -50,7 +50,7 @@ fn add_line(
     known: &mut BTreeSet<Vec<u8>>,
     waiting: &mut Waiting,
     line: &[u8],
-) -> Result<(), Fault> {
+) -> Result<(), FilingFault> {
     match read_line(alloc, line) {
         Ok(line) if is_file_name(&line.token) => {
             if is_new(alloc, known, &line.token)? {
@@ -58,7 +58,7 @@ fn add_line(
             }
             Ok(())
         }
-        Err(LineFault::NoMemory) => Err(Fault::NoMemory),
+        Err(LineFault::NoMemory) => Err(FilingFault::NoMemory),
         _ => Ok(()),
     }
 }

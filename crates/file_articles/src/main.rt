@@ -11,7 +11,7 @@ mod fault;
 mod lines;
 
 use batch::file_all;
-use fault::Fault;
+use fault::FilingFault;
 use lines::read_lines;
 use std::env;
 use std::fs::File;
@@ -31,15 +31,17 @@ fn main(rt: HostRuntime) -> ExitCode {
     ExitCode::from(status)
 }
 
-fn run<R: AllocGlobal + Input + Print + Env + Files<File = File>>(rt: &R) -> Result<(), Fault> {
+fn run<R: AllocGlobal + Input + Print + Env + Files<File = File>>(
+    rt: &R,
+) -> Result<(), FilingFault> {
     let mut words = match env::args(rt) {
         Ok(words) => words,
-        Err(error) if error.kind() == ErrorKind::OutOfMemory => return Err(Fault::NoMemory),
-        Err(_) => return Err(Fault::Usage),
+        Err(error) if error.kind() == ErrorKind::OutOfMemory => return Err(FilingFault::NoMemory),
+        Err(_) => return Err(FilingFault::Usage),
     };
     let _program = words.next();
     let (Some(directory), Some(lines), None) = (words.next(), words.next(), words.next()) else {
-        return Err(Fault::Usage);
+        return Err(FilingFault::Usage);
     };
     let waiting = read_lines(rt, lines.as_str())?;
     file_all(rt, directory.as_str(), waiting)

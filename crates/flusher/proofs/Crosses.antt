@@ -14,7 +14,7 @@ use Rattle.ledger_core.proofs.part.Part.TheSendSync as part
 use Rattle.ledger_core.proofs.spot.Spot.TheSendSync as spot
 use Rattle.ledger_core.specs.contracts.ledger.Ledger as Ledger
 use Rattle.ledger_core.specs.contracts.outline.Outline as Outline
-use Rattle.recovery.proofs.segments.Segments.TheSendSync as segments
+use Rattle.recovery.proofs.segments.TapeSegments.TheSendSync as segments
 use Rattle.recovery.specs.contracts.tape.Tape as Tape
 use Rattle.flusher.proofs.tally.Tally.TheSendSync as tally
 use Rattle.flusher.specs.contracts.post.Intake as Intake
@@ -22,7 +22,7 @@ use Rattle.disk_model.specs.declared.Disk as disk
 use Rattle.flusher.specs.declared.naming.Naming as naming
 use Rattle.deferral.specs.contracts.later.Later as Later
 use Rattle.deferral.proofs.tree.Bounds.TheSendSync as bounds
-use Rattle.deferral.proofs.tree.Entry.TheSendSync as entry
+use Rattle.deferral.proofs.tree.TreeEntry.TheSendSync as entry
 use Rattle.deferral.proofs.tree.Fork.TheLaws.TheKnot as knot
 use Rattle.peer_queue.specs.contracts.outbox.Outbox as Outbox
 use Rattle.peer_queue.specs.contracts.front.Front as Front

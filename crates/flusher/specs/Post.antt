@@ -9,7 +9,7 @@ use Rattle.flusher.specs.Names.{Counts, Names, Pair}
 use Rattle.flusher.specs.declared.naming.BlankPair.{BlankPair}
 use Rattle.flusher.specs.declared.naming.BlankQueue.{BlankQueue}
 use Rattle.flusher.specs.declared.naming.Blanks.{Blanks}
-use Rattle.flusher.specs.declared.peer.Peer.{Peer}
+use Rattle.flusher.specs.declared.peer.PostPeer.{PostPeer}
 use Rattle.flusher.specs.declared.peer.Sums.{Sums}
 use Rattle.flusher.specs.declared.closing.ClosedPeer.{ClosedPeer}
 
@@ -47,11 +47,11 @@ pub record IsFor (peers : ℕ) (blanks : Blanks) : Type 0 where
 
 module _ {D : Type 0} {g : Ghosts D} where
   -- what the station of a peer counts
-  abbrev pub sums_at : Peer D g → Sums
+  abbrev pub sums_at : PostPeer D g → Sums
   sums_at peer = sums_of (ledger_of peer.station)
 
   -- the names of these ledgers and queues, for these peers
-  abbrev pub names_of : Blanks → List (Peer D g) → Names
+  abbrev pub names_of : Blanks → List (PostPeer D g) → Names
   names_of blanks peers =
       record {
         taken = pair_of blanks.taken;

@@ -41,7 +41,7 @@ pub struct ClosedPeer<D: Disk> {
 
 /// What a post was made of, and what its workers counted.
 #[derive(Drop)]
-pub struct Closed<D: Disk> {
+pub struct ClosedPost<D: Disk> {
     /// The peers, in the post's order.
     pub peers: Vec<ClosedPeer<D>>,
     /// The intake tape.
@@ -160,7 +160,7 @@ impl<D: Disk + Drop, N: Naming> Post<D, N> {
         first: FeederShare<N>,
         second: FeederShare<N>,
         third: FeederShare<N>,
-    ) -> Result<Closed<D>, CloseFault<D, N>>
+    ) -> Result<ClosedPost<D>, CloseFault<D, N>>
         ensures taken { IfOk result
             (λ r. (total (map sums_in r.peers.items)).taken ≡ (total self.opened).taken
             + intake.taken) }
@@ -231,7 +231,7 @@ impl<D: Disk + Drop, N: Naming> Post<D, N> {
         answerers.audit(&mut told_answered);
         droppers.audit(&mut told_dropped);
         let Intake { tape } = behind.into_inner();
-        Ok(Closed {
+        Ok(ClosedPost {
             peers: closed,
             intake: tape,
             sums: Sums {

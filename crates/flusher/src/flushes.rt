@@ -73,7 +73,7 @@ impl<N: Naming> Flusher<N> {
         let begun = Instant::now(rt);
         let receipt = post.flush_all(rt, pace)?;
         if let Ok(begun) = begun {
-            tell_slow(rt, begun);
+            log_slow(rt, begun);
         }
         signals.answer(rt, orders, receipt);
         post.rotate_all(rt)
@@ -144,7 +144,7 @@ impl<D: Disk, N: Naming> Work<D, N> for Flusher<N> {
 }
 
 // Logs a flush that began at this moment, if it took long.
-fn tell_slow<R: Clock + Log>(rt: &R, begun: Instant) {
+fn log_slow<R: Clock + Log>(rt: &R, begun: Instant) {
     if let Ok(passed) = begun.elapsed(rt)
         && passed.as_secs() >= SLOW
     {

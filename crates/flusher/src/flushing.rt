@@ -154,7 +154,7 @@ impl<D: Disk, N: Naming> Post<D, N> {
             Ok(None) => Ok(()),
             Err(fault) => {
                 let fault = PostFault::of_tape(peer, fault);
-                self.tell_front(rt, peer, fault);
+                self.report_to_front(rt, peer, fault);
                 if fault.has_broken() {
                     Err(fault)
                 } else {

@@ -28,12 +28,12 @@ mod tally;
 mod tape_desk;
 mod threads;
 
-pub use closing::{CloseFault, Closed, ClosedPeer, Unclosed};
+pub use closing::{CloseFault, ClosedPeer, ClosedPost, Unclosed};
 pub use fault::PostFault;
 pub use flushes::Flusher;
 pub use naming::{Blanks, Naming};
 pub use pace::{Free, Pace, Place, Who};
-pub use peer::{Peer, Sums};
+pub use peer::{PostPeer, Sums};
 pub use post::Post;
 pub use reported::Reported;
 pub use sealing::Receipt;

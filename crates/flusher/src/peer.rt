@@ -37,7 +37,7 @@ pub struct Sums {
 
 /// A peer's name, and its station.
 #[derive(Drop)]
-pub struct Peer<D: Disk> {
+pub struct PostPeer<D: Disk> {
     /// Its name.
     pub name: PeerName,
     /// All that it is owed.
@@ -45,7 +45,7 @@ pub struct Peer<D: Disk> {
     ghost kept: { ∥ IsKept station ∥₁ },
 }
 
-impl<D: Disk> Peer<D> {
+impl<D: Disk> PostPeer<D> {
     /// A peer whose station is opened from these disks.
     ///
     /// # Errors
@@ -56,7 +56,7 @@ impl<D: Disk> Peer<D> {
         a: D,
         b: D,
         limits: Limits,
-    ) -> Result<Peer<D>, RefusedTape<D>>
+    ) -> Result<PostPeer<D>, RefusedTape<D>>
         // Whatever a stop left of a history is opened.
         ensures recovers { (h : History) → D.honest a → D.honest b
             → EachTape (Survives h) (D.log a, D.log b)
@@ -81,7 +81,7 @@ impl<D: Disk> Peer<D> {
             Ok(station) => station,
             Err(refused) => return Err(refused),
         };
-        Ok(Peer { name, station })
+        Ok(PostPeer { name, station })
     }
 
     /// Owes it the line of this number of the source that is open (a backlog file), which is ready from now on.

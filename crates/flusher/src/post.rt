@@ -15,9 +15,9 @@ use crate::naming::{
     AnsweredAtStations, AnsweredByFeeders, BlankPair, BlankQueue, DroppedAtStations,
     DroppedByFeeders, TakenAtStations, TakenByIntake,
 };
-use crate::peer::{Peer, Sums, counted_at};
+use crate::peer::{PostPeer, Sums, counted_at};
 use crate::share::{FeederShare, IntakeShare};
-use crate::tally::{Opening, Tally};
+use crate::tally::{Tally, UncutLedger};
 use crate::tape_desk::TapeDesk;
 use crate::{Blanks, Naming};
 use disk_model::Disk;
@@ -90,16 +90,16 @@ impl<D: Disk, N: Naming> Model for Post<D, N> {
 // The three ledgers beside the stations, as they are cut.
 #[derive(Drop)]
 struct Openings<N: Naming> {
-    taken: Opening<TakenAtStations<N>>,
-    answered: Opening<AnsweredAtStations<N>>,
-    dropped: Opening<DroppedAtStations<N>>,
+    taken: UncutLedger<TakenAtStations<N>>,
+    answered: UncutLedger<AnsweredAtStations<N>>,
+    dropped: UncutLedger<DroppedAtStations<N>>,
 }
 
 impl<N: Naming> Openings<N> {
     // Splits the station of one more peer, at this place.
     fn desk<D: Disk + Drop>(
         &mut self,
-        peer: Peer<D>,
+        peer: PostPeer<D>,
         blank: BlankQueue,
         place: usize,
     ) -> Result<PeerDesk<D, N>, AllocError>
@@ -127,7 +127,7 @@ impl<N: Naming> Openings<N> {
             × (self.new.dropped.book.total
             ≡ self.old.dropped.book.total + desk.opened.dropped)) }
     {
-        let Peer { name, station, .. } = peer;
+        let PostPeer { name, station, .. } = peer;
         let BlankQueue { queue, pass, .. } = blank;
         let opened = counted_at(&station);
         let acknowledged = station.totals();
@@ -173,7 +173,7 @@ impl<D: Disk + Drop, N: Naming> Post<D, N> {
     /// `NoMemory` if memory was refused. Nothing is handed back: the tapes have to be opened again.
     pub fn new(
         alloc: Global,
-        peers: Vec<Peer<D>>,
+        peers: Vec<PostPeer<D>>,
         intake: Tape<D>,
         blanks: Blanks,
     ) -> Result<
@@ -228,9 +228,9 @@ impl<D: Disk + Drop, N: Naming> Post<D, N> {
         let (answered, first_answered) = answered.open::<AnsweredByFeeders<N>>();
         let (dropped, first_dropped) = dropped.open::<DroppedByFeeders<N>>();
         let mut openings = Openings {
-            taken: Opening::new(taken_at),
-            answered: Opening::new(answered_at),
-            dropped: Opening::new(dropped_at),
+            taken: UncutLedger::new(taken_at),
+            answered: UncutLedger::new(answered_at),
+            dropped: UncutLedger::new(dropped_at),
         };
         let mut queues = queues.into_iter();
         let mut place = 0;

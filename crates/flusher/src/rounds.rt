@@ -27,14 +27,14 @@ impl<D: Disk, N: Naming> Post<D, N> {
     {
         let settled = self.go_round(rt, pace, peer, count);
         if let Err(fault) = settled {
-            self.tell_front(rt, peer, fault);
+            self.report_to_front(rt, peer, fault);
         }
         settled
     }
 
     // Reports to a peer's front that a flush or a rotation failed. The front is cut off if a disk failed, now or
     // before.
-    pub(crate) fn tell_front<R: Wait>(&self, rt: &R, peer: usize, fault: PostFault)
+    pub(crate) fn report_to_front<R: Wait>(&self, rt: &R, peer: usize, fault: PostFault)
         requires { peer < length self.now.names }
     {
         self.peers[peer].front.lock(rt).fail(fault.has_broken());

@@ -54,7 +54,7 @@ impl Signals {
     /// Orders a flush, and returns the order's number. One flush serves all orders that came before it began.
     pub fn order(&self) -> u64 {
         let before = self.orders.fetch_add(1, Ordering::SeqCst);
-        self.tell();
+        self.wake_all();
         before.wrapping_add(1)
     }
 
@@ -80,7 +80,7 @@ impl Signals {
     /// The funnel is at its end: what is ready or held is to be worked off.
     pub fn begin_last_phase(&self) {
         self.last_phase.store(true, Ordering::SeqCst);
-        self.tell();
+        self.wake_all();
     }
 
     /// Whether the last phase has begun.
@@ -91,7 +91,7 @@ impl Signals {
     /// The run is to end in good order: nothing more is claimed, and what is held gets its answers.
     pub fn begin_draining(&self) {
         self.draining.store(true, Ordering::SeqCst);
-        self.tell();
+        self.wake_all();
     }
 
     /// Whether the run is to end in good order.
@@ -114,7 +114,7 @@ impl Signals {
     /// Everyone is to end at once: a worker met a fault, or a thread could not be started.
     pub fn stop(&self) {
         self.stopped.store(true, Ordering::SeqCst);
-        self.tell();
+        self.wake_all();
     }
 
     /// Whether everyone is to end at once.
@@ -153,13 +153,13 @@ impl Signals {
             orders,
             receipt: Some(receipt),
         };
-        self.tell();
+        self.wake_all();
     }
 
     // The flusher is to end: no other worker is left.
     pub(crate) fn end_flusher(&self) {
         self.over.store(true, Ordering::SeqCst);
-        self.tell();
+        self.wake_all();
     }
 
     // Whether the flusher is to end.
@@ -168,7 +168,7 @@ impl Signals {
     }
 
     // Wakes everyone who waits. What is signalled was written before, so nobody sleeps through it.
-    fn tell(&self) {
+    fn wake_all(&self) {
         self.changes.fetch_add(1, Ordering::SeqCst);
         self.changes.wake_all();
     }

@@ -110,20 +110,20 @@ impl<N: Naming> Tally<N> {
 
 /// A counting ledger of the stations, while parts are cut off it.
 #[derive(Drop)]
-pub struct Opening<S: AtStations> {
+pub struct UncutLedger<S: AtStations> {
     book: Book<S>,
     rest: Share<S>,
 }
 
-impl<S: AtStations> Opening<S> {
+impl<S: AtStations> UncutLedger<S> {
     /// All of it.
-    pub fn new(blank: Blank) -> Opening<S>
+    pub fn new(blank: Blank) -> UncutLedger<S>
         requires { (blank.name ≡ S.name) × (blank.parts ≡ S.parts) }
         ensures { (result.book.total ≡ 0) × (result.rest.parts ≡ S.parts)
             × (result.rest.amount ≡ 0) }
     {
         let (book, rest) = blank.open::<S>();
-        Opening { book, rest }
+        UncutLedger { book, rest }
     }
 
     /// One part of it, which has this amount.
@@ -134,7 +134,7 @@ impl<S: AtStations> Opening<S> {
             × (self.new.rest.amount ≡ 0) }
         ensures total { self.new.book.total ≡ self.old.book.total + amount }
     {
-        let Opening { book, rest } = self;
+        let UncutLedger { book, rest } = self;
         let mut share = rest.split_off(1, 0);
         book.add(&mut share, amount);
         share
@@ -147,7 +147,7 @@ impl<S: AtStations> Opening<S> {
         requires workers { workers.total ≡ 0 }
         ensures { result ≡ 0 }
     {
-        let Opening { book, rest } = self;
+        let UncutLedger { book, rest } = self;
         Books {
             count: 0,
             workers,

@@ -3,7 +3,7 @@ use crate::fault::FunnelFault;
 use crate::line_file::{LineFile, SkipFault};
 use crate::position::{Misfit, Position};
 use crate::segment_directory::SegmentDirectory;
-use segments::{Place, Segments};
+use segments::{SegmentPlace, Segments};
 use std::fs::File;
 use std::io;
 use std::rt::Files;
@@ -26,7 +26,7 @@ impl OpenSegment {
     pub fn open<F: AllocGlobal + Files<File = File>>(
         directory: &SegmentDirectory<'_, F>,
         segments: &Segments,
-        place: Place,
+        place: SegmentPlace,
         mark: u64,
     ) -> Result<Self, FunnelFault> {
         let segment = place.first;

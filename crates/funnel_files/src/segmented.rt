@@ -5,7 +5,7 @@ use crate::position::Misfit;
 use crate::segment::OpenSegment;
 use crate::segment_directory::SegmentDirectory;
 use crate::tidying::Tidying;
-use segments::{Place, Segments};
+use segments::{SegmentPlace, Segments};
 use std::fs::File;
 use std::rt::Files;
 
@@ -118,11 +118,16 @@ impl<'a, F: AllocGlobal + Files<File = File>> SegmentedFunnel<'a, F> {
     }
 
     fn open_first(&mut self, segments: &Segments, first: u64) -> Result<(), FunnelFault> {
-        let place = Place { first, skipped: 0 };
+        let place = SegmentPlace { first, skipped: 0 };
         self.open_at(segments, place, first.saturating_sub(1))
     }
 
-    fn open_at(&mut self, segments: &Segments, place: Place, mark: u64) -> Result<(), FunnelFault> {
+    fn open_at(
+        &mut self,
+        segments: &Segments,
+        place: SegmentPlace,
+        mark: u64,
+    ) -> Result<(), FunnelFault> {
         let open = OpenSegment::open(&self.directory, segments, place, mark)?;
         self.open = Some(open);
         if let Some(tidying) = &mut self.tidying {

@@ -10,10 +10,11 @@ use Rattle.ledger_core.specs.Base.{base_spelling, has_imports, is_told, owe, tol
 use Rattle.ledger_core.specs.Spelling.{spelling}
 use Rattle.ledger_core.specs.Spots.{IsFound, PointsAt, StandsAt, debt_of, records_length}
 use Rattle.ledger_core.specs.declared.note.Note.TheVariants.{Owe}
-use Rattle.ledger_core.specs.declared.spot.Entry.{Entry}
+use Rattle.ledger_core.specs.declared.spot.DebtEntry.{DebtEntry}
 
 -- what was added points where it was put
-pub points-new : (kept : ℕ) (payloads : List (List ℕ)) (number at slot within : ℕ) (entry : Entry) (token id : List ℕ)
+pub points-new : (kept : ℕ) (payloads : List (List ℕ)) (number at slot within : ℕ) (entry : DebtEntry) (token id :
+    List ℕ)
     → entry.spot.at ≡ at → entry.spot.slot ≡ slot → entry.spot.within ≡ within
     → entry.token.value ≡ token → entry.id.value ≡ id
     → IsFound kept payloads at slot within (spelling (Owe number token id)) → PointsAt kept payloads (number, entry)

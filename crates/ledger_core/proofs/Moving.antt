@@ -18,11 +18,11 @@ use Rattle.ledger_core.specs.Spots.{records_length}
 use Rattle.ledger_core.specs.State.{Owing, State, import_count, imports_in, line_octets, octets_of_debts}
 use Rattle.ledger_core.specs.Written.{base_of, written_octets}
 use Rattle.ledger_core.specs.declared.base.Base.{Base}
-use Rattle.ledger_core.specs.declared.spot.Entry.{Entry}
+use Rattle.ledger_core.specs.declared.spot.DebtEntry.{DebtEntry}
 use Rattle.ledger_core.specs.declared.spot.Spot.{Spot}
 use Rattle.ledger_core.proofs.Indexed.{base-length, records-push}
 
-abbrev pub spot_at : ℕ × Entry → ℕ × Spot
+abbrev pub spot_at : ℕ × DebtEntry → ℕ × Spot
 spot_at entry = (entry.0, entry.1.spot)
 
 -- the spots from this offset on
@@ -31,7 +31,7 @@ anew at [] = []
 anew at (entry ∷ rest) = (entry.0, moved_to at entry.1) ∷ anew (beyond at entry) rest
 
 -- what was kept of a debt, moved to this offset
-pub record IsMoved (at : ℕ) (old new : Entry) : Type 0 where
+pub record IsMoved (at : ℕ) (old new : DebtEntry) : Type 0 where
   pub spot : new.spot ≡ moved_to at old.spot
   pub token : new.token.value ≡ old.token.value
   pub id : new.id.value ≡ old.id.value
@@ -42,8 +42,8 @@ pub record AreMoved (at : ℕ) (old new : Entries) : Type 0 where
   pub spots : map spot_at new ≡ anew at (map spot_at old)
 
 -- each in its turn is moved to where the walk has come, which goes on behind it
-pub moved_all : {F : Type 0} (T : F → ℕ → Entry → Bool → Entry → F → Type 0) (at_of : F → ℕ)
-    → ((f : F) (k : ℕ) (v : Entry) (b : Bool) (w : Entry) (f' : F) → T f k v b w f'
+pub moved_all : {F : Type 0} (T : F → ℕ → DebtEntry → Bool → DebtEntry → F → Type 0) (at_of : F → ℕ)
+    → ((f : F) (k : ℕ) (v : DebtEntry) (b : Bool) (w : DebtEntry) (f' : F) → T f k v b w f'
     → (b ≡ true) × IsMoved (at_of f) v w × (at_of f' ≡ beyond (at_of f) (k, v.spot)))
     → (f : F) (old new : Entries) → RetainsPairs T f old new → AreMoved (at_of f) old new
 moved_all T at_of told f [] new run = record {

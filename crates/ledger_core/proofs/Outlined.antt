@@ -14,13 +14,13 @@ use Rattle.ledger_core.specs.Parts.{Parts, ordinals_of, sizes_of}
 use Rattle.ledger_core.specs.Shape.{Size, size_of}
 use Rattle.ledger_core.specs.Spots.{Entries, debts_of}
 use Rattle.ledger_core.specs.State.{keys_in, line_octets}
-use Rattle.ledger_core.specs.declared.spot.Entry.{Entry}
+use Rattle.ledger_core.specs.declared.spot.DebtEntry.{DebtEntry}
 
 -- what is kept of a debt that was owed at the beginning
-abbrev pub part_of : ℕ × Entry → ℕ × (ℕ × ℕ)
+abbrev pub part_of : ℕ × DebtEntry → ℕ × (ℕ × ℕ)
 part_of entry = (entry.0, (0, line_octets entry.1.token.value entry.1.id.value))
 
-abbrev pub put_part : Parts → ℕ × Entry → Parts
+abbrev pub put_part : Parts → ℕ × DebtEntry → Parts
 put_part parts entry = insert_entry nat_cmp parts entry.0 (part_of entry).1
 
 -- these debts, each put in behind those before it
@@ -47,7 +47,7 @@ Below parts (entry ∷ entries) = All (λ (p : ℕ × (ℕ × ℕ)). p.0 < entry
 rises : (one other : ℕ) → nat_cmp one other ≡ Less → one < other
 rises one other less = grind (arith, nat_tests)
 
-below-more : (parts : Parts) (entry : ℕ × Entry) (entries : Entries) → Below parts (entry ∷ entries)
+below-more : (parts : Parts) (entry : ℕ × DebtEntry) (entries : Entries) → Below parts (entry ∷ entries)
     → IsStrictlySortedBy nat_cmp (keys_of (entry ∷ entries)) → Below (parts ++ part_of entry ∷ []) entries
 below-more parts entry [] below sorted = tt
 below-more parts entry (next ∷ entries) below sorted =

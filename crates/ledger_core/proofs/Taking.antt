@@ -11,8 +11,8 @@ use Rattle.ledger_core.specs.declared.note.Note.{Note}
 use Rattle.ledger_core.specs.declared.note.Note.TheVariants.{Owe, Final, Drop, Seen, Closed}
 use Rattle.ledger_core.specs.declared.restoring.RefusedPayload.{RefusedPayload}
 use Rattle.ledger_core.specs.declared.restoring.Restoring.{Restoring}
-use Rattle.ledger_core.specs.declared.restoring.Stage.{Stage}
-use Rattle.ledger_core.specs.declared.restoring.Stage.TheVariants.{Unread, Begun, Refused}
+use Rattle.ledger_core.specs.declared.restoring.RestoreStage.{RestoreStage}
+use Rattle.ledger_core.specs.declared.restoring.RestoreStage.TheVariants.{Unread, Begun, Refused}
 use Rattle.ledger_core.specs.Base.{BeginsWith, IsBase, IsSound, LeavesBehind, RestoreStopsAt, Restores}
 use Rattle.ledger_core.specs.Base.{SpellsNoBase, base_spelling, based_on, has_imports, marks_in, owe}
 use Rattle.ledger_core.specs.Batch.{IsBatch, longest_batch, notes_of, payload_of, payloads_of}
@@ -374,7 +374,7 @@ next-no-notes generation taken payloads payload state all (inr whole) none =
     whole-stops generation taken payloads payload state whole none
 
 -- a payload that is too long is refused wherever it stands
-pub long-stops : (stage : Stage) (state : State) (payloads : List (List ℕ)) (payload : List ℕ)
+pub long-stops : (stage : RestoreStage) (state : State) (payloads : List (List ℕ)) (payload : List ℕ)
     → longest_batch < length payload → HasRead stage state payloads
     → RestoreStopsAt (payloads ++ payload ∷ []) (length payloads)
 long-stops Unread state payloads payload long (none, is) =
@@ -398,7 +398,7 @@ going restoring payloads on (inr stopped) = absurd (on stopped.stage_is)
 pub stopped : (restoring : Restoring) (payloads : List (List ℕ)) → restoring.stage ≡ Refused
     → HasTaken restoring payloads → HasStopped restoring payloads
 stopped restoring payloads is (inl gone) =
-    absurd (subst (λ (s : Stage). HasRead s (state_of restoring.ledger) payloads) is gone.reads)
+    absurd (subst (λ (s : RestoreStage). HasRead s (state_of restoring.ledger) payloads) is gone.reads)
 stopped restoring payloads is (inr stop) = stop
 
 -- a further payload changes nothing then
@@ -423,7 +423,7 @@ pub gone-more : (old read new : Restoring) (payloads : List (List ℕ)) (payload
     → new.at ≡ min (read.at + (5 + length payload)) (2 ^ 64 - 1) → HasTaken new (payloads ++ payload ∷ [])
 gone-more old read new payloads payload gone reads indexed same ledger stage index at =
     inl (record {
-      reads = subst (λ (s : Stage). HasRead s (state_of new.ledger) (payloads ++ payload ∷ [])) (sym stage)
+      reads = subst (λ (s : RestoreStage). HasRead s (state_of new.ledger) (payloads ++ payload ∷ [])) (sym stage)
           (subst (λ (l : Ledger). HasRead read.stage (state_of l) (payloads ++ payload ∷ [])) (sym ledger) reads);
       indexed = λ kept few.
           subst (λ (l : Ledger). Indexes kept (payloads ++ payload ∷ []) l) (sym ledger)
@@ -452,26 +452,26 @@ gone-stops old new payloads payload gone stops stage index at =
 
 -- ---- the end
 
-pub unread-apart : ◌≡◌ {A = Stage} Unread Refused → ⊥
+pub unread-apart : ◌≡◌ {A = RestoreStage} Unread Refused → ⊥
 unread-apart e = cc e
 
 pub unread-restores : (restoring : Restoring) (payloads : List (List ℕ)) → restoring.stage ≡ Unread
     → HasTaken restoring payloads → Restores payloads 0 (state_of restoring.ledger)
 unread-restores restoring payloads is (inl gone) =
     let reads : HasRead Unread (state_of restoring.ledger) payloads =
-    subst (λ (s : Stage). HasRead s (state_of restoring.ledger) payloads) is gone.reads in
+    subst (λ (s : RestoreStage). HasRead s (state_of restoring.ledger) payloads) is gone.reads in
     subst (λ (ps : List (List ℕ)). Restores ps 0 (state_of restoring.ledger)) (sym reads.0)
     (inl (tt, refl, ([], tt, refl, tt, reads.1)))
 unread-restores restoring payloads is (inr stop) = absurd (unread-apart (sym is ∙ stop.stage_is))
 
-pub begun-apart : (generation taken : ℕ) → ◌≡◌ {A = Stage} (Begun generation taken) Refused → ⊥
+pub begun-apart : (generation taken : ℕ) → ◌≡◌ {A = RestoreStage} (Begun generation taken) Refused → ⊥
 begun-apart generation taken e = cc e
 
 pub begun-reads : (restoring : Restoring) (generation taken : ℕ) (payloads : List (List ℕ))
     → restoring.stage ≡ Begun generation taken → HasTaken restoring payloads
     → HasRead (Begun generation taken) (state_of restoring.ledger) payloads
 begun-reads restoring generation taken payloads is (inl gone) =
-    subst (λ (s : Stage). HasRead s (state_of restoring.ledger) payloads) is gone.reads
+    subst (λ (s : RestoreStage). HasRead s (state_of restoring.ledger) payloads) is gone.reads
 begun-reads restoring generation taken payloads is (inr stop) =
     absurd (begun-apart generation taken (sym is ∙ stop.stage_is))
 
@@ -554,4 +554,4 @@ on-ok-each (Err fault) few P said = tt
 pub unread-reads : (restoring : Restoring) (payloads : List (List ℕ)) → restoring.stage ≡ Unread
     → HasGoneOn restoring payloads → (payloads ≡ []) × (state_of restoring.ledger ≡ start)
 unread-reads restoring payloads is gone =
-    subst (λ (s : Stage). HasRead s (state_of restoring.ledger) payloads) is gone.reads
+    subst (λ (s : RestoreStage). HasRead s (state_of restoring.ledger) payloads) is gone.reads

@@ -13,7 +13,7 @@ use Rattle.std.proofs.lemmas.List.Elements.{All-weaker}
 use Rattle.ledger_core.specs.declared.ledger.Ledger.{Ledger}
 use Rattle.ledger_core.specs.declared.note.Note.{Note}
 use Rattle.ledger_core.specs.declared.note.Note.TheVariants.{Owe, Final, Drop, Seen, Closed}
-use Rattle.ledger_core.specs.declared.spot.Entry.{Entry}
+use Rattle.ledger_core.specs.declared.spot.DebtEntry.{DebtEntry}
 use Rattle.ledger_core.specs.Base.{owe}
 use Rattle.std.specs.Int.{to_be_bytes, w32}
 use Rattle.ledger_core.specs.Batch.{StandsIn, batch_spelling, body_of, together}
@@ -277,8 +277,8 @@ found-at (debt ∷ debts) (suc k) e sorted within =
 
 -- what is kept of the debt at a place
 record At (entries : Entries) (k : ℕ) : Type 0 where
-  entry : ℕ × Entry
-  at : (d : ℕ × Entry) → get_or entries k d ≡ entry
+  entry : ℕ × DebtEntry
+  at : (d : ℕ × DebtEntry) → get_or entries k d ≡ entry
 
 at-of : (entries : Entries) (k : ℕ) → k < length entries → At entries k
 at-of [] k within = absurd (omega arith)
@@ -298,13 +298,13 @@ spots-at ledger k d e rising within =
       arith,
       within,
       length-map {B = ℕ × Spot} entries
-          (λ (entry : ℕ × Entry). (entry.0, entry.1.spot)),
+          (λ (entry : ℕ × DebtEntry). (entry.0, entry.1.spot)),
     ) in
     let there = at-of entries k inside in
     let entry = there.entry in
     let spot : get_or (spots_of ledger) k d ≡ (entry.0, entry.1.spot) =
-    get_or-map (λ (x : ℕ × Entry). (x.0, x.1.spot)) entries k entry d inside
-    ∙ ap (λ (x : ℕ × Entry). (x.0, x.1.spot)) (there.at entry) in
+    get_or-map (λ (x : ℕ × DebtEntry). (x.0, x.1.spot)) entries k entry d inside
+    ∙ ap (λ (x : ℕ × DebtEntry). (x.0, x.1.spot)) (there.at entry) in
     let debt : get_or (debts_of entries) k e ≡ debt_of entry =
     get_or-map debt_of entries k entry e inside ∙ ap debt_of (there.at entry) in
     let sorted = sorted_from_strictly_increasing (keys (state_of ledger)) rising in
@@ -327,7 +327,7 @@ spots-at ledger k d e rising within =
 -- as many spots as debts
 pub spots-length : (ledger : Ledger) → length (spots_of ledger) ≡ length (state_of ledger).debts
 spots-length ledger =
-    length-map {B = ℕ × Spot} ledger.debts.entries (λ (entry : ℕ × Entry). (entry.0, entry.1.spot))
+    length-map {B = ℕ × Spot} ledger.debts.entries (λ (entry : ℕ × DebtEntry). (entry.0, entry.1.spot))
     ∙ sym (length-map ledger.debts.entries debt_of)
 
 -- ---- a note in a part of its payload

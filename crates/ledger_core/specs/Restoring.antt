@@ -3,8 +3,8 @@ use Rattle.std.specs.Prelude.{◌≡◌, ◌⊎◌, ℕ, ◌-◌, ◌<◌, ◌�
 use Rattle.ledger_core.specs.declared.base.Base.{Base}
 use Rattle.ledger_core.specs.declared.restoring.RefusedPayload.{RefusedPayload}
 use Rattle.ledger_core.specs.declared.restoring.Restoring.{Restoring}
-use Rattle.ledger_core.specs.declared.restoring.Stage.{Stage}
-use Rattle.ledger_core.specs.declared.restoring.Stage.TheVariants.{Unread, Begun, Refused}
+use Rattle.ledger_core.specs.declared.restoring.RestoreStage.{RestoreStage}
+use Rattle.ledger_core.specs.declared.restoring.RestoreStage.TheVariants.{Unread, Begun, Refused}
 use Rattle.ledger_core.specs.Base.{BeginsWith, IsSound, RestoreStopsAt, Restores}
 use Rattle.ledger_core.specs.Index.{Indexes}
 use Rattle.ledger_core.specs.Ledger.{state_of}
@@ -31,7 +31,7 @@ pub record IsWhole (generation taken : ℕ) (payloads : List (List ℕ)) (state 
   pub enough : taken ≤ state.taken
 
 -- so far these payloads can be read, and leave this state
-abbrev pub HasRead : Stage → State → List (List ℕ) → Type 0
+abbrev pub HasRead : RestoreStage → State → List (List ℕ) → Type 0
 HasRead Unread state payloads = (payloads ≡ []) × (state ≡ start)
 HasRead (Begun generation taken) state payloads =
     IsOwing generation taken payloads state ⊎ IsWhole generation taken payloads state

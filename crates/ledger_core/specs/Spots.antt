@@ -3,7 +3,7 @@ use Rattle.std.specs.Prelude.{◌≡◌, ◌==◌, ℕ, ◌+◌, ◌-◌, ◌^�
 use Rattle.std.specs.Prelude.{nat_lt, if◌then◌else◌}
 use Rattle.ledger_core.specs.declared.note.Note.{Note}
 use Rattle.ledger_core.specs.declared.note.Note.TheVariants.{Owe, Final, Drop, Seen, Closed}
-use Rattle.ledger_core.specs.declared.spot.Entry.{Entry}
+use Rattle.ledger_core.specs.declared.spot.DebtEntry.{DebtEntry}
 use Rattle.ledger_core.specs.declared.spot.Spot.{Spot}
 use Rattle.ledger_core.specs.Base.{owe}
 use Rattle.ledger_core.specs.Batch.{StandsIn}
@@ -12,10 +12,10 @@ use Rattle.ledger_core.specs.State.{Owing}
 
 -- what is kept of debts, by their keys
 abbrev pub Entries : Type 0
-Entries = List (ℕ × Entry)
+Entries = List (ℕ × DebtEntry)
 
 -- the debt that this is kept of
-abbrev pub debt_of : ℕ × Entry → Owing
+abbrev pub debt_of : ℕ × DebtEntry → Owing
 debt_of entry = (entry.0, (entry.1.token.value, entry.1.id.value))
 
 abbrev pub debts_of : Entries → List Owing
@@ -23,7 +23,7 @@ debts_of entries = map debt_of entries
 
 -- all but the one of this key
 abbrev pub lacking : ℕ → Entries → Entries
-lacking key entries = filter (λ (entry : ℕ × Entry). not (entry.0 == key)) entries
+lacking key entries = filter (λ (entry : ℕ × DebtEntry). not (entry.0 == key)) entries
 
 -- how many octets the records of these payloads have on a tape: each payload comes after a gate and a length in four
 -- octets
@@ -62,7 +62,7 @@ IsPlaced kept payloads at slot within (Seen number) = Unit {0}
 IsPlaced kept payloads at slot within (Closed source) = Unit {0}
 
 -- the note that owes this debt is at this spot
-abbrev pub PointsAt : ℕ → List (List ℕ) → ℕ × Entry → Type 0
+abbrev pub PointsAt : ℕ → List (List ℕ) → ℕ × DebtEntry → Type 0
 PointsAt kept payloads entry =
     IsFound kept payloads entry.1.spot.at entry.1.spot.slot entry.1.spot.within (spelling (owe (debt_of entry)))
 

@@ -13,7 +13,7 @@ use crate::codec::{other_of, owed_of};
 use crate::key::Key;
 use crate::marks::Marks;
 use crate::note::Note;
-use crate::spot::{Entry, Spot};
+use crate::spot::{DebtEntry, Spot};
 use funnel::{MsgId, Token};
 use std::alloc::{AllocError, AllocFailed, Global};
 use std::collections::BTreeMap;
@@ -119,7 +119,7 @@ pub struct Totals {
 /// The cost of a call is logarithmic in what is owed, memory is linear in it.
 #[derive(Drop)]
 pub struct Ledger {
-    pub(crate) debts: BTreeMap<Key, Entry>,
+    pub(crate) debts: BTreeMap<Key, DebtEntry>,
     pub(crate) marks: Marks,
     pub(crate) taken: u64,
     pub(crate) answered: u64,
@@ -657,7 +657,7 @@ impl Ledger {
             return Err(LedgerFault::CountFull);
         };
         self.debts
-            .insert(key, Entry::of(at, slot, within, token, id))?;
+            .insert(key, DebtEntry::of(at, slot, within, token, id))?;
         self.marks = marks;
         self.taken = taken;
         self.owed_bytes = owed_bytes;
@@ -753,7 +753,7 @@ pub fn offset_behind(at: u64, payload: &[u8]) -> u64
         .saturating_add(payload.len() as u64)
 }
 
-fn remove_debt(debts: &mut BTreeMap<Key, Entry>, key: Key) -> Option<u64>
+fn remove_debt(debts: &mut BTreeMap<Key, DebtEntry>, key: Key) -> Option<u64>
     ensures none { IfNone result
         ((Contains (keys_in (debts_of debts.old.entries)) key → ⊥)
         × (debts.new.entries ≡ debts.old.entries)) }
@@ -773,7 +773,7 @@ fn remove_debt(debts: &mut BTreeMap<Key, Entry>, key: Key) -> Option<u64>
     Some(octets_of(&entry))
 }
 
-fn octets_of(entry: &Entry) -> u64
+fn octets_of(entry: &DebtEntry) -> u64
     ensures { result ≡ line_octets entry.now.token.value entry.now.id.value }
 {
     let Spot {

@@ -14,7 +14,7 @@ use crate::ledger::{Ledger, LedgerFault, Totals};
 use crate::marks::Marks;
 use crate::note::Note;
 use crate::part::Part;
-use crate::spot::{Entry, Spot};
+use crate::spot::{DebtEntry, Spot};
 use funnel::{MsgId, Token};
 use std::alloc::{AllocError, Global};
 use std::collections::BTreeMap;
@@ -370,7 +370,7 @@ fn octets_of(token: &Token, id: &MsgId) -> u16
     token.bytes().len() as u16 + id.bytes().len() as u16 + 2
 }
 
-fn octets_kept(entry: &Entry) -> u16
+fn octets_kept(entry: &DebtEntry) -> u16
     ensures { result ≡ line_octets entry.now.token.value entry.now.id.value }
 {
     let Spot {

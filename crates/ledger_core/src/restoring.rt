@@ -22,7 +22,7 @@ pub struct RefusedPayload {
 
 // How far the reading of a tape has come.
 #[derive(Clone, Copy, Debug, PartialEq, Eq)]
-pub(crate) enum Stage {
+pub(crate) enum RestoreStage {
     Unread,
     // The tape has this generation, 0 if no Base stands first. Payloads are debts of the Base until `taken` debts were
     // taken in all, and notes from then on.
@@ -38,14 +38,14 @@ pub(crate) enum Stage {
 pub struct Restoring {
     alloc: Global,
     ledger: Ledger,
-    stage: Stage,
+    stage: RestoreStage,
     // The index of the next payload, or of the refused one, and where its record begins.
     index: usize,
     at: u64,
 }
 
 impl Restoring {
-    ghost use Rattle.ledger_core.specs.declared.restoring.Stage.{Stage};
+    ghost use Rattle.ledger_core.specs.declared.restoring.RestoreStage.{RestoreStage};
     ghost use Rattle.ledger_core.specs.Base.{RestoreStopsAt, Restores};
     ghost use Rattle.ledger_core.specs.Batch.{longest_batch};
     ghost use Rattle.ledger_core.specs.Index.{Indexes};
@@ -61,7 +61,7 @@ impl Restoring {
         Restoring {
             alloc,
             ledger: Ledger::new(alloc),
-            stage: Stage::Unread,
+            stage: RestoreStage::Unread,
             index: 0,
             at: 0,
         }
@@ -126,11 +126,11 @@ impl Restoring {
             at: self.at,
         };
         match self.stage {
-            Stage::Unread => Ok(Restored {
+            RestoreStage::Unread => Ok(Restored {
                 generation: 0,
                 ledger: self.ledger,
             }),
-            Stage::Begun { generation, taken } => {
+            RestoreStage::Begun { generation, taken } => {
                 if self.ledger.taken < taken {
                     return Err(refused);
                 }
@@ -139,14 +139,14 @@ impl Restoring {
                     ledger: self.ledger,
                 })
             }
-            Stage::Refused => Err(refused),
+            RestoreStage::Refused => Err(refused),
         }
     }
 
     fn is_refused(&self) -> bool
-        ensures { IsTrue result ↔ self.now.stage ≡ Stage.Refused }
+        ensures { IsTrue result ↔ self.now.stage ≡ RestoreStage.Refused }
     {
-        matches!(self.stage, Stage::Refused)
+        matches!(self.stage, RestoreStage::Refused)
     }
 
     // Reads the next payload. The place stays as it was.
@@ -162,9 +162,9 @@ impl Restoring {
         ensures place { (self.new.index ≡ self.old.index) × (self.new.at ≡ self.old.at) }
     {
         match self.stage {
-            Stage::Unread => self.read_first(payload),
-            Stage::Begun { taken, .. } => self.read_next(taken, payload),
-            Stage::Refused => Err(ReplayFault::Refused { index: self.index }),
+            RestoreStage::Unread => self.read_first(payload),
+            RestoreStage::Begun { taken, .. } => self.read_next(taken, payload),
+            RestoreStage::Refused => Err(ReplayFault::Refused { index: self.index }),
         }
     }
 
@@ -183,7 +183,7 @@ impl Restoring {
     {
         let Some(base) = decode_base(payload) else {
             self.ledger.apply_payload(self.index, self.at, payload)?;
-            self.stage = Stage::Begun {
+            self.stage = RestoreStage::Begun {
                 generation: 0,
                 taken: 0,
             };
@@ -193,7 +193,7 @@ impl Restoring {
             return Err(ReplayFault::Refused { index: self.index });
         }
         self.ledger = Ledger::of_base(self.alloc, &base);
-        self.stage = Stage::Begun {
+        self.stage = RestoreStage::Begun {
             generation: base.generation,
             taken: base.taken,
         };
@@ -203,15 +203,15 @@ impl Restoring {
     // Reads a further payload: a debt of the Base if fewer than `taken` debts were taken, else notes.
     fn read_next(&mut self, taken: u64, payload: &[u8]) -> Result<(), ReplayFault>
         ensures reads { (generation : ℕ) (payloads : List (List ℕ))
-            → HasRead (Stage.Begun generation taken) (state_of self.old.ledger) payloads
-            → OnOk result (HasRead (Stage.Begun generation taken) (state_of self.new.ledger)
+            → HasRead (RestoreStage.Begun generation taken) (state_of self.old.ledger) payloads
+            → OnOk result (HasRead (RestoreStage.Begun generation taken) (state_of self.new.ledger)
             (payloads ++ payload.now ∷ [])) }
         ensures indexes { (kept : ℕ) (payloads : List (List ℕ))
             → Indexes kept payloads self.old.ledger
             → StandsAt kept payloads self.old.at 0 payload.now
             → OnOk result (Indexes kept payloads self.new.ledger) }
         ensures refused { (generation : ℕ) (payloads : List (List ℕ))
-            → HasRead (Stage.Begun generation taken) (state_of self.old.ledger) payloads
+            → HasRead (RestoreStage.Begun generation taken) (state_of self.old.ledger) payloads
             → (told : ℕ) → IsErrOf result (ReplayFault.Refused told)
             → RestoreStopsAt (payloads ++ payload.now ∷ []) (length payloads) }
         ensures place { (self.new.index ≡ self.old.index) × (self.new.at ≡ self.old.at)
@@ -236,10 +236,10 @@ impl Restoring {
 
     // Keeps the place of the refused payload, and no ledger.
     fn refuse(&mut self)
-        ensures stage { self.new.stage ≡ Stage.Refused }
+        ensures stage { self.new.stage ≡ RestoreStage.Refused }
         ensures place { (self.new.index ≡ self.old.index) × (self.new.at ≡ self.old.at) }
     {
-        self.stage = Stage::Refused;
+        self.stage = RestoreStage::Refused;
         self.ledger = Ledger::new(self.alloc);
     }
 }

@@ -11,7 +11,7 @@ use Rattle.std.proofs.lemmas.List.Elements.{All-nil, All-cons, All-head, All-tai
 use Rattle.deferral.specs.Due.{Waiting, IsDue, IsRising, due_of}
 use Rattle.peer_queue.specs.DebtPlace.{DebtPlace, IsLater, Places}
 use Rattle.peer_queue.specs.Index.{Holders, due_at, place_by, place_for, places_by}
-use Rattle.peer_queue.specs.declared.wait.Wait.TheVariants.{Ready, Until}
+use Rattle.peer_queue.specs.declared.wait.Readiness.TheVariants.{Ready, Until}
 use Rattle.peer_queue.proofs.Moves.{above_at, at_head, in_tail}
 
 -- each of them waits for a moment

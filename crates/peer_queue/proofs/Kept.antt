@@ -14,7 +14,7 @@ use Rattle.std.proofs.lemmas.Cmp.{nat_cmp_total, tied_itself}
 use Rattle.deferral.specs.Due.{Waiting, IsRising, added, due_of}
 use Rattle.peer_queue.specs.DebtPlace.{DebtPlace, Held, IsHeldBy, IsUnheld, place_at, is_held}
 use Rattle.peer_queue.specs.Index.{Holders, IsKept, pair_cmp, place_by, place_for, places_by}
-use Rattle.peer_queue.specs.declared.wait.Wait.TheVariants.{Until}
+use Rattle.peer_queue.specs.declared.wait.Readiness.TheVariants.{Until}
 
 -- ---- comparing numbers and pairs
 

@@ -10,11 +10,11 @@ use Rattle.deferral.specs.Due.{Waiting, AllNumbers, IsDue, IsLeastDue, IsRising,
 use Rattle.peer_queue.specs.DebtPlace.{DebtPlace, Places, Ready, gone, is_candidate, least_candidate, moved, place_at}
 use Rattle.peer_queue.specs.DebtPlace.{with_place}
 use Rattle.peer_queue.specs.Index.{Holders, due_at, place_by, place_for, places_by}
-use Rattle.peer_queue.specs.declared.wait.Wait.{Wait}
-use Rattle.peer_queue.specs.declared.wait.Wait.TheVariants.{Ready as ReadyNow, Until}
+use Rattle.peer_queue.specs.declared.wait.Readiness.{Readiness}
+use Rattle.peer_queue.specs.declared.wait.Readiness.TheVariants.{Ready as ReadyNow, Until}
 
 -- the moment at which a wait is due gives the place for it
-due_place : (wait : Wait) → place_for (Until (due_at wait)) ≡ place_for wait
+due_place : (wait : Readiness) → place_for (Until (due_at wait)) ≡ place_for wait
 due_place ReadyNow = refl
 due_place (Until moment) = refl
 
@@ -32,7 +32,7 @@ moved_by k h (x ∷ xs) n due o here same =
     ∙ ap (λ (l : Places). cond (x.0 == n) (n, place_by o due) (x.0, place_by (h x.0) x.1) ∷ l) (moved_by k h xs n due o here same)
 
 -- a number that none holds any more, and its wait
-pub moved_wait : (k h : Holders) (agenda : Waiting) (n d : ℕ) (wait : Wait) → d ≡ due_at wait → k n ≡ None
+pub moved_wait : (k h : Holders) (agenda : Waiting) (n d : ℕ) (wait : Readiness) → d ≡ due_at wait → k n ≡ None
     → ((m : ℕ) → (m ≡ n → ⊥) → k m ≡ h m)
     → places_by k (changed agenda n (Some d)) ≡ moved (places_by h agenda) n (place_for wait)
 moved_wait k h agenda n d wait due none same =

@@ -6,8 +6,8 @@ use Rattle.std.specs.Ordering.{nat_cmp, ordering_then}
 use Rattle.std.specs.declared.cmp.Ordering.{Ordering}
 use Rattle.deferral.specs.Due.{Waiting, IsRising, due_of}
 use Rattle.peer_queue.specs.DebtPlace.{DebtPlace, Places, Ready, Held, place_until}
-use Rattle.peer_queue.specs.declared.wait.Wait.{Wait}
-use Rattle.peer_queue.specs.declared.wait.Wait.TheVariants.{Ready as ReadyNow, Until}
+use Rattle.peer_queue.specs.declared.wait.Readiness.{Readiness}
+use Rattle.peer_queue.specs.declared.wait.Readiness.TheVariants.{Ready as ReadyNow, Until}
 
 -- the order of pairs of a connection and a number
 abbrev pub pair_cmp : ℕ × ℕ → ℕ × ℕ → Ordering
@@ -18,12 +18,12 @@ abbrev pub Holders : Type 0
 Holders = ℕ → Option ℕ
 
 -- the place of a number that waits for this
-abbrev pub place_for : Wait → DebtPlace
+abbrev pub place_for : Readiness → DebtPlace
 place_for ReadyNow = Ready
 place_for (Until moment) = place_until moment
 
 -- the moment from which on it may be claimed
-abbrev pub due_at : Wait → ℕ
+abbrev pub due_at : Readiness → ℕ
 due_at ReadyNow = 0
 due_at (Until moment) = moment
 

@@ -10,7 +10,7 @@ use crate::fault::station_fault;
 use crate::outbox::Outbox;
 use crate::place_index::PlaceIndex;
 use crate::settled::{Settled, key_in};
-use crate::wait::Wait;
+use crate::wait::Readiness;
 use crate::{Limits, Owed, Shed, StationFault};
 use conn_core::{CxnId, Deferral, Outcome, Verdict};
 use funnel::{MsgId, Token};
@@ -319,7 +319,7 @@ impl Front {
         if !self.index.is_held_by(connection, debt.key()) {
             return Err((debt, StationFault::NotHeld));
         }
-        self.give_up(connection, debt.key(), Wait::Until(until));
+        self.give_up(connection, debt.key(), Readiness::Until(until));
         Ok(())
     }
 
@@ -572,11 +572,11 @@ impl Front {
             Settled::Answered(code) => self.end(connection, key, Note::Final { key, code }),
             Settled::Dropped(cause) => self.end(connection, key, Note::Drop { key, cause }),
             Settled::Later(moment) => {
-                self.give_up(connection, key, Wait::Until(moment));
+                self.give_up(connection, key, Readiness::Until(moment));
                 Ok(())
             }
             Settled::Ready => {
-                self.give_up(connection, key, Wait::Ready);
+                self.give_up(connection, key, Readiness::Ready);
                 Ok(())
             }
         }
@@ -606,7 +606,7 @@ impl Front {
     }
 
     // Makes a debt that this connection holds wait for this.
-    fn give_up(&mut self, connection: CxnId, key: Key, wait: Wait)
+    fn give_up(&mut self, connection: CxnId, key: Key, wait: Readiness)
         requires { IsHeldBy (places_of self.old) connection.0 key }
         ensures keeps { KeepsNotes self.old self.new }
         ensures places { places_of self.new

@@ -8,7 +8,7 @@ ghost use Rattle.peer_queue.specs.DebtPlace.{all_gone, all_ready, gone, held_cou
 ghost use Rattle.peer_queue.specs.DebtPlace.{released, unheld, with_place};
 ghost use Rattle.peer_queue.specs.Index.{place_for};
 
-use crate::wait::Wait;
+use crate::wait::Readiness;
 use conn_core::CxnId;
 use deferral::{Later, after_put, after_remove, after_set};
 use ledger_core::Key;
@@ -68,7 +68,7 @@ impl PlaceIndex {
     {
         // For the prover: the keys still rise.
         after_put();
-        self.agenda.put(key, Wait::Ready.due_at())
+        self.agenda.put(key, Readiness::Ready.due_at())
     }
 
     /// The least key that is ready, or later until a moment at or before now.
@@ -111,7 +111,7 @@ impl PlaceIndex {
     }
 
     /// Makes a key that this connection holds wait for this. Takes no memory.
-    pub fn give_up(&mut self, connection: CxnId, key: Key, wait: Wait)
+    pub fn give_up(&mut self, connection: CxnId, key: Key, wait: Readiness)
         requires { IsHeldBy self.old connection.0 key }
         ensures { self.new ≡ moved self.old key (place_for wait) }
     {
@@ -167,7 +167,7 @@ impl PlaceIndex {
     {
         let mut count = 0;
         while let Some(key) = self.first_held_by(connection) {
-            self.give_up(connection, key, Wait::Ready);
+            self.give_up(connection, key, Readiness::Ready);
             count += 1;
         }
         count
@@ -187,7 +187,7 @@ impl PlaceIndex {
     {
         match self.holders.first_key_value() {
             Some(_) => false,
-            None => self.agenda.due_least(Wait::Ready.due_at()).is_none(),
+            None => self.agenda.due_least(Readiness::Ready.due_at()).is_none(),
         }
     }
 

@@ -10,7 +10,7 @@ ghost use Rattle.peer_queue.specs.DebtPlace.{all_ready, placed};
 use crate::fault::station_fault;
 use crate::place_index::{PlaceIndex, all_ready_of};
 use crate::settled::{Settled, key_in};
-use crate::wait::Wait;
+use crate::wait::Readiness;
 use crate::{Limits, Owed, Shed, StationFault};
 use conn_core::{CxnId, Deferral, Outcome, Verdict};
 use disk_model::Disk;
@@ -346,7 +346,7 @@ impl<D: Disk> Station<D> {
         if !self.index.is_held_by(connection, debt.key()) {
             return Err((debt, StationFault::NotHeld));
         }
-        self.give_up(connection, debt.key(), Wait::Until(until));
+        self.give_up(connection, debt.key(), Readiness::Until(until));
         Ok(())
     }
 
@@ -502,11 +502,11 @@ impl<D: Disk> Station<D> {
             Settled::Answered(code) => self.end(connection, key, Note::Final { key, code }),
             Settled::Dropped(cause) => self.end(connection, key, Note::Drop { key, cause }),
             Settled::Later(moment) => {
-                self.give_up(connection, key, Wait::Until(moment));
+                self.give_up(connection, key, Readiness::Until(moment));
                 Ok(())
             }
             Settled::Ready => {
-                self.give_up(connection, key, Wait::Ready);
+                self.give_up(connection, key, Readiness::Ready);
                 Ok(())
             }
         }
@@ -536,7 +536,7 @@ impl<D: Disk> Station<D> {
     }
 
     // Makes a debt that this connection holds wait for this.
-    fn give_up(&mut self, connection: CxnId, key: Key, wait: Wait)
+    fn give_up(&mut self, connection: CxnId, key: Key, wait: Readiness)
         requires { IsHeldBy (places_of self.old) connection.0 key }
         ensures tape { IsSameTape self.old self.new }
         ensures places { places_of self.new

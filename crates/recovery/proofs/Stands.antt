@@ -33,7 +33,7 @@ use Rattle.recovery.specs.Tape.{IsIndexed, StandsFor, StaysBehind}
 use Rattle.recovery.specs.Words.{AreHonest, IsBroken, generation_of, ledger_of, live_log, live_segment, log_of}
 use Rattle.recovery.specs.Words.{other_log}
 use Rattle.recovery.specs.Words.{pending_of}
-use Rattle.recovery.specs.declared.segments.Segments.{Segments}
+use Rattle.recovery.specs.declared.segments.TapeSegments.{TapeSegments}
 use Rattle.recovery.specs.declared.tape.Tape.{Tape}
 use Rattle.recovery.proofs.Pends.{ends-none, holds-none, holds-same}
 
@@ -200,25 +200,26 @@ stands_noted_all {D} {g} old new h notes stands same are legal stepped flushed c
     let back : drop h.kept (h.notes ++ notes) ≡ drop h.kept h.notes ++ notes = drop-append-le h.kept h.notes notes
     stands.kept_within in
     record {
-      honest = subst (λ (s : Segments D g). g.honest (journal_disk s.live) × g.honest s.other) (sym same) stands.honest;
+      honest = subst (λ (s : TapeSegments D g). g.honest (journal_disk s.live)
+          × g.honest s.other) (sym same) stands.honest;
       are_legal = AreLegal-append h.base h.notes notes stands.are_legal are here;
       opened = stands.opened;
       kept_within = omega (arith, stands.kept_within, length-append h.notes notes);
       count = flushed ∙ stands.count;
       ledger = stepped ∙ (ap (λ (s : State). after s notes) stands.ledger ∙ sym (after-append h.base h.notes notes));
-      images = subst (λ (s : Segments D g). EachTape (Survives (noted_all h notes))
+      images = subst (λ (s : TapeSegments D g). EachTape (Survives (noted_all h notes))
           (placed s.second (g.log (journal_disk s.live)) (g.log s.other))) (sym same)
           (λ c d is is'. Survives-noted_all h notes (c, d) (stands.images c d is is'));
       working = λ works.
-          let w = stands.working (subst (λ (s : Segments D g). s.live.broken ≡ true → ⊥) same works) in
+          let w = stands.working (subst (λ (s : TapeSegments D g). s.live.broken ≡ true → ⊥) same works) in
           record {
             payloads = w.payloads;
-            holds = subst (λ (s : Segments D g). Holds s.live w.payloads) (sym same) w.holds;
-            restores = subst (λ (s : Segments D g). Restores w.payloads s.generation
+            holds = subst (λ (s : TapeSegments D g). Holds s.live w.payloads) (sym same) w.holds;
+            restores = subst (λ (s : TapeSegments D g). Restores w.payloads s.generation
                 (after h.base (take h.kept (h.notes ++ notes)))) (sym same)
                 (subst (λ (l : List Note). Restores w.payloads (generation_of old) (after h.base l)) (sym prefix)
                 w.restores);
-            other = subst (λ (s : Segments D g). EachImage (StaysBehind s.second s.generation) (g.log s.other))
+            other = subst (λ (s : TapeSegments D g). EachImage (StaysBehind s.second s.generation) (g.log s.other))
                 (sym same) w.other;
             pending = subst (HoldsNotes new.pending) (sym back) (holds (drop h.kept h.notes) w.pending);
             pending_count = omega (
@@ -248,13 +249,15 @@ stands_refused {D} {g} old new h stands honest ledger pending pends flushed mome
   images = pairs-now (Survives h) (log_of old) (log_of new) moments;
   working = λ works.
       let stay = same works in
-      let w = stands.working (subst (λ (s : Segments D g). s.live.broken ≡ true → ⊥) stay works) in
+      let w = stands.working (subst (λ (s : TapeSegments D g). s.live.broken ≡ true → ⊥) stay works) in
       record {
         payloads = w.payloads;
-        holds = subst (λ (s : Segments D g). Holds s.live w.payloads) (sym stay) w.holds;
-        restores = subst (λ (s : Segments D g). Restores w.payloads s.generation (after h.base (take h.kept h.notes)))
+        holds = subst (λ (s : TapeSegments D g). Holds s.live w.payloads) (sym stay) w.holds;
+        restores = subst (λ (s : TapeSegments D g). Restores w.payloads s.generation (after h.base (take h.kept
+            h.notes)))
             (sym stay) w.restores;
-        other = subst (λ (s : Segments D g). EachImage (StaysBehind s.second s.generation) (g.log s.other)) (sym stay)
+        other = subst (λ (s : TapeSegments D g). EachImage (StaysBehind s.second s.generation) (g.log s.other)) (sym
+            stay)
             w.other;
         pending = holds-same old.pending new.pending (drop h.kept h.notes) pending w.pending;
         pending_count = pends ∙ w.pending_count;
@@ -288,8 +291,8 @@ stands_placed tape place few h stands = record {
 }
 
 -- A tape whose segments are the same is the same: what else it keeps is a fact.
-pub same_tape : {D : Type 0} {g : Ghosts D} (tape : Tape D g) (segments : Segments D g) → segments ≡ tape.segments
+pub same_tape : {D : Type 0} {g : Ghosts D} (tape : Tape D g) (segments : TapeSegments D g) → segments ≡ tape.segments
     → (few : pending_of tape ≤ most_pending) → record tape { segments = segments; few = few } ≡ tape
 same_tape {D} {g} tape segments same few =
-    ap (λ (s : Segments D g). record tape { segments = s; few = few }) same
+    ap (λ (s : TapeSegments D g). record tape { segments = s; few = few }) same
     ∙ ap (λ (x : pending_of tape ≤ most_pending). record tape { few = x }) (le_prop few tape.few)

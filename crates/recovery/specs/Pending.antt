@@ -9,7 +9,7 @@ use Rattle.ledger_core.specs.declared.ledger.Ledger.{Ledger}
 use Rattle.ledger_core.specs.Index.{Indexes}
 use Rattle.ledger_core.specs.Spots.{IsPlaced, records_length}
 use Rattle.recovery.specs.declared.pending.Pending.{Pending}
-use Rattle.recovery.specs.declared.pending.Place.{Place}
+use Rattle.recovery.specs.declared.pending.PendingPlace.{PendingPlace}
 
 -- their payloads, in order
 abbrev pub payloads_in : Pending → List (List ℕ)
@@ -52,7 +52,7 @@ pub record EndsAt (kept pending : List (List ℕ)) (last next : ℕ) : Type 0 wh
   pub next_is : next ≡ min (records_length (kept ++ pending)) (2 ^ 64 - 1)
 
 -- A note has its place in these pending payloads, and the ledger still says where the others are.
-pub record Places (kept pending : List (List ℕ)) (ledger : Ledger) (note : Note) (place : Place) : Type 0 where
+pub record Places (kept pending : List (List ℕ)) (ledger : Ledger) (note : Note) (place : PendingPlace) : Type 0 where
   pub indexes : Indexes (length kept) (kept ++ pending) ledger
   pub stands : IsPlaced (length kept) (kept ++ pending) place.at place.slot place.within note
   pub ends : EndsAt kept pending place.at place.next

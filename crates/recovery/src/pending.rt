@@ -17,7 +17,7 @@ const HEAD_LEN: usize = 5;
 
 /// Where a note goes that comes after all pending ones.
 #[derive(Clone, Copy)]
-pub(crate) struct Place {
+pub(crate) struct PendingPlace {
     // The offset of its record, or the greatest u64 if that is less.
     pub(crate) at: u64,
     // The index of its record among the pending ones.
@@ -145,7 +145,7 @@ impl Pending {
 
     // Where a note of `len` octets goes that comes after what is pending. The last pending record begins at `last`, and
     // one after all of them would begin at `next`.
-    pub(crate) fn place_for(&self, last: u64, next: u64, len: usize) -> Place
+    pub(crate) fn place_for(&self, last: u64, next: u64, len: usize) -> PendingPlace
         requires short { len ≤ 1024 }
         requires few { self.now.count ≤ most_pending }
         ensures places { (kept new : List (List ℕ)) (ledger : Ledger) (notes : List Note)
@@ -160,7 +160,7 @@ impl Pending {
     {
         let count = self.payloads.len();
         if !self.joins(len) {
-            return Place {
+            return PendingPlace {
                 at: next,
                 slot: count as u32,
                 within: 0,
@@ -168,7 +168,7 @@ impl Pending {
             };
         }
         let joined = self.joined(len);
-        Place {
+        PendingPlace {
             at: last,
             slot: count.saturating_sub(1) as u32,
             within: joined.saturating_sub(HEAD_LEN + len).min(65535) as u16,

@@ -14,7 +14,7 @@ ghost use Rattle.recovery.specs.declared.fault.TapeFault.TheVariants.{Broken};
 use crate::fault::append_fault;
 use crate::pending::Pending;
 use crate::read::read_ledger;
-use crate::segments::{Segments, is_second_live};
+use crate::segments::{TapeSegments, is_second_live};
 use crate::{Flushed, TapeFault};
 use disk_model::Disk;
 use funnel::{MsgId, Token};
@@ -74,7 +74,7 @@ impl<D: Disk> RefusedTape<D> {
 #[derive(Drop)]
 pub struct Tape<D: Disk> {
     pub(crate) alloc: Global,
-    pub(crate) segments: Segments<D>,
+    pub(crate) segments: TapeSegments<D>,
     pub(crate) ledger: Ledger,
     pub(crate) pending: Pending,
     // The offset at which the last pending record will be, or the greatest u64 if that is less. It means nothing while
@@ -212,7 +212,7 @@ impl<D: Disk> Tape<D> {
                 alloc,
                 last: 0,
                 next: end_of(&live),
-                segments: Segments {
+                segments: TapeSegments {
                     live,
                     other,
                     second,
@@ -682,7 +682,7 @@ impl<D: Disk> Tape<D> {
             × EachTape (Survives h) (D.log result.0, D.log result.1) }
     {
         let Tape { segments, .. } = self;
-        let Segments {
+        let TapeSegments {
             live,
             other,
             second,

@@ -18,11 +18,11 @@ pub const LONGEST_REPLY: usize = 2048;
 /// A reader of reply lines, fed in pieces of any size (RFC 3977, section 3.1).
 #[derive(Debug, Drop)]
 pub struct ReplyReader {
-    stage: Stage,
+    stage: ReaderStage,
 }
 
 #[derive(Debug, Drop)]
-enum Stage {
+enum ReaderStage {
     Working(Unread),
     /// A fault was returned.
     Broken,
@@ -45,7 +45,7 @@ impl ReplyReader {
         ensures stands { StandsFor result [] [] }
     {
         ReplyReader {
-            stage: Stage::Working(Unread::new(alloc)),
+            stage: ReaderStage::Working(Unread::new(alloc)),
         }
     }
 
@@ -62,8 +62,8 @@ impl ReplyReader {
         ensures broken { self.old ≡ Broken → IsOk result }
     {
         match &mut self.stage {
-            Stage::Working(unread) => unread.feed(piece),
-            Stage::Broken => Ok(()),
+            ReaderStage::Working(unread) => unread.feed(piece),
+            ReaderStage::Broken => Ok(()),
         }
     }
 
@@ -84,17 +84,17 @@ impl ReplyReader {
         ensures refuses { RefusesNext self.old self.new result }
     {
         match &mut self.stage {
-            Stage::Working(unread) => match next_reply(unread) {
+            ReaderStage::Working(unread) => match next_reply(unread) {
                 Ok(next) => Ok(next),
                 Err(fault) => match fault {
                     ReplyFault::NoMemory => Err(fault),
                     _ => {
-                        self.stage = Stage::Broken;
+                        self.stage = ReaderStage::Broken;
                         Err(fault)
                     }
                 },
             },
-            Stage::Broken => Err(ReplyFault::Failed),
+            ReaderStage::Broken => Err(ReplyFault::Failed),
         }
     }
 }

@@ -1,7 +1,7 @@
 -- The segments of a directory as the numbers of their first lines (profile).
 use Rattle.std.specs.Prelude.{◌≡◌, ◌↔◌, ◌⊎◌, ℕ, ◌+◌, ◌<◌, ◌≤◌, ◌^◌, List, Contains, All}
 use Rattle.std.specs.List.Sorted.{IsStrictlyIncreasing}
-use Rattle.segments.specs.declared.place.Place.{Place}
+use Rattle.segments.specs.declared.place.SegmentPlace.{SegmentPlace}
 
 -- they rise, and each is from 1 to the greatest number of 64 bits
 pub record AreFirsts (firsts : List ℕ) : Type 0 where
@@ -13,7 +13,7 @@ abbrev pub JoinsOne : List ℕ → ℕ → List ℕ → Type 0
 JoinsOne old first new = (other : ℕ) → Contains new other ↔ ((other ≡ first) ⊎ Contains old other)
 
 -- the last segment that begins at or below the line after the mark, and how many lines lie between
-pub record IsPlaceOf (firsts : List ℕ) (mark : ℕ) (place : Place) : Type 0 where
+pub record IsPlaceOf (firsts : List ℕ) (mark : ℕ) (place : SegmentPlace) : Type 0 where
   pub there : Contains firsts place.first
   pub last : (other : ℕ) → Contains firsts other → place.first < other → mark + 1 < other
   pub skipped : place.first + place.skipped ≡ mark + 1

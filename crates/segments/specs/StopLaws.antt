@@ -7,7 +7,7 @@ use Rattle.std.proofs.lemmas.Bool.{eq-eqb, eqb-true}
 use Rattle.std.proofs.lemmas.List.Elements.{All-contains, All-contains_itself, All-filter, Contains-append_cases}
 use Rattle.std.proofs.lemmas.List.Elements.{Contains-append_left, Contains-push, Contains-push_cases, filter_passes}
 use Rattle.std.proofs.lemmas.List.Sorted.{Contains-permutation, IsPermutation-filter_both}
-use Rattle.segments.specs.declared.place.Place.{Place}
+use Rattle.segments.specs.declared.place.SegmentPlace.{SegmentPlace}
 use Rattle.segments.specs.Firsts.{IsBefore, IsPlaceOf}
 use Rattle.segments.specs.Stops.{State, Event, Write, Name, Sync, Acknowledge, Remove, Crash, Holds, IsAllowed}
 use Rattle.segments.specs.Stops.{IsLeft, Runs, after, start, without}
@@ -179,7 +179,7 @@ on_side m n = grind arith
 
 -- a place that is found among the names that are left is where the line after the mark is
 pub place_holds : (events : List Event) (state : State) → Runs start events state
-    → (left : List ℕ) → IsLeft state left → (place : Place) → IsPlaceOf left state.mark place
+    → (left : List ℕ) → IsLeft state left → (place : SegmentPlace) → IsPlaceOf left state.mark place
     → Holds place.first state.mark state.named
 place_holds events state runs left is_left place is =
     let (holder, is_sure, holds) = (runs_sound events start state runs starts_sound).holder in
@@ -198,7 +198,7 @@ place_holds events state runs left is_left place is =
 
 -- and one is found: whatever a crash leaves, the next line that is read is the one after the mark
 pub place_found : (events : List Event) (state : State) → Runs start events state
-    → (left : List ℕ) → IsLeft state left → (answer : Option Place) → IfSome answer (IsPlaceOf left state.mark)
+    → (left : List ℕ) → IsLeft state left → (answer : Option SegmentPlace) → IfSome answer (IsPlaceOf left state.mark)
     → IfNone answer ((first : ℕ) → Contains left first → state.mark + 1 < first)
     → IsSomeAnd answer (λ place. Holds place.first state.mark state.named × IsPlaceOf left state.mark place)
 place_found events state runs left is_left None some none =
@@ -209,7 +209,7 @@ place_found events state runs left is_left (Some place) some none =
     (place_holds events state runs left is_left place some, some)
 
 -- what begins below a place that is sure may be removed
-pub before_may_go : (state : State) (left : List ℕ) (place : Place) → IsPlaceOf left state.mark place
+pub before_may_go : (state : State) (left : List ℕ) (place : SegmentPlace) → IsPlaceOf left state.mark place
     → Contains state.sure place.first → (other : ℕ) → IsBefore left place.first other → IsAllowed state (Remove other)
 before_may_go state left place is is_sure other before = (place.first, is_sure, before.1, omega (arith, is.skipped))
 

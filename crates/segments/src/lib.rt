@@ -11,7 +11,7 @@ mod place;
 mod segments;
 
 pub use name::{NameFault, name_of, read_name};
-pub use place::Place;
+pub use place::SegmentPlace;
 pub use segments::{AddFault, Segments};
 /// Memory was refused.
 pub use std::alloc::AllocError as NoMemory;

@@ -7,7 +7,7 @@ ghost use Rattle.segments.specs.Firsts.{AreFirsts, IsBefore, IsNext, IsPlaceOf, 
 ghost use Rattle.segments.specs.declared.name.NameFault.{NameFault};
 
 use crate::name::{NameFault, read_name};
-use crate::place::Place;
+use crate::place::SegmentPlace;
 use std::alloc::{AllocError, Global};
 use std::marker::Model;
 use thiserror::Error;
@@ -101,7 +101,7 @@ impl Segments {
 
     /// Where the line after this mark is: in the last segment that begins at or below it, or after that one's last
     /// line, if the line is not yet written. `None` if all begin after the line.
-    pub fn place_of(&self, mark: u64) -> Option<Place>
+    pub fn place_of(&self, mark: u64) -> Option<SegmentPlace>
         ensures some { IfSome result (IsPlaceOf self.now mark) }
         ensures none { IfNone result
             ((first : ℕ) → Contains self.now first → mark + 1 < first) }
@@ -112,7 +112,7 @@ impl Segments {
             return None;
         }
         let first = self.firsts[count - 1];
-        Some(Place {
+        Some(SegmentPlace {
             first,
             skipped: mark - (first - 1),
         })

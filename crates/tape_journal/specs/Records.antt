@@ -13,8 +13,8 @@ use Rattle.tape_journal.specs.declared.fault.OpenFault.{OpenFault}
 use Rattle.tape_journal.specs.declared.fault.OpenFault.TheVariants.{Disk}
 use Rattle.tape_journal.specs.declared.records.ReadPayload.{ReadPayload}
 use Rattle.tape_journal.specs.declared.records.SegmentReader.{SegmentReader}
-use Rattle.tape_journal.specs.declared.records.Step.{Step}
-use Rattle.tape_journal.specs.declared.records.Step.TheVariants.{End, Held, TooLong}
+use Rattle.tape_journal.specs.declared.records.ReaderStep.{ReaderStep}
+use Rattle.tape_journal.specs.declared.records.ReaderStep.TheVariants.{End, Held, TooLong}
 
 -- the records of these payloads, none of them too long, are the first octets, up to this offset
 pub record HasRead (all : List ℕ) (payloads : List (List ℕ)) (at : ℕ) : Type 0 where
@@ -76,7 +76,7 @@ module _ {D : Type 0} {g : Ghosts D} where
   IsAtRecord reader size = BeginsRecord size (drop reader.at (content (g.log reader.disk)))
 
   -- the segment has ended, or one more payload was read, which stands in the window or is too long
-  abbrev pub IsStep : SegmentReader D g → List (List ℕ) → Step → Type 0
+  abbrev pub IsStep : SegmentReader D g → List (List ℕ) → ReaderStep → Type 0
   IsStep reader payloads End = HasEnded reader payloads
   IsStep reader payloads (Held from count) =
       (payload : List ℕ) × (take count (drop from (octets_of reader.window)) ≡ payload)
@@ -85,7 +85,7 @@ module _ {D : Type 0} {g : Ghosts D} where
       (payload : List ℕ) × (longest_given < length payload) × HasComeTo reader (payloads ++ payload ∷ [])
 
   -- what a step leaves, whatever the disk: each record leaves less to be read, and what is held lies within the room
-  abbrev pub MovesOn : SegmentReader D g → SegmentReader D g → Step → Type 0
+  abbrev pub MovesOn : SegmentReader D g → SegmentReader D g → ReaderStep → Type 0
   MovesOn old new End = Unit {0}
   MovesOn old new (Held from count) = (from + count ≤ room_of new.window) × (left_of new < left_of old)
   MovesOn old new TooLong = left_of new < left_of old

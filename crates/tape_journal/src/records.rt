@@ -23,7 +23,7 @@ pub enum ReadPayload<'a> {
 }
 
 // What the next record is.
-pub(crate) enum Step {
+pub(crate) enum ReaderStep {
     // The segment ends there.
     End,
     // Its payload has so many octets, which stand in the window from this place on.
@@ -101,17 +101,17 @@ impl<D: Disk> SegmentReader<D> {
         ensures no_memory { IsErrOf result OpenFault.NoMemory → ⊥ }
     {
         match self.step()? {
-            Step::End => Ok(None),
-            Step::Held { from, count } => {
+            ReaderStep::End => Ok(None),
+            ReaderStep::Held { from, count } => {
                 let octets = self.window.lend(from, count);
                 Ok(Some(ReadPayload::Octets(octets)))
             }
-            Step::TooLong => Ok(Some(ReadPayload::TooLong)),
+            ReaderStep::TooLong => Ok(Some(ReadPayload::TooLong)),
         }
     }
 
     // Goes on behind the next record, if there is one.
-    fn step(&mut self) -> Result<Step, OpenFault>
+    fn step(&mut self) -> Result<ReaderStep, OpenFault>
         ensures step { (payloads : List (List ℕ)) → HasComeTo self.old payloads
             → MatchResult result (IsStep self.new payloads) (λ _. HasComeTo self.new payloads) }
         ensures moves { IfOk result (MovesOn self.old self.new) }
@@ -122,17 +122,17 @@ impl<D: Disk> SegmentReader<D> {
         ensures keeps { KeepsDisk self.old self.new result }
     {
         if self.len == 0 {
-            return Ok(Step::End);
+            return Ok(ReaderStep::End);
         }
         match head_at(&mut self.window, &mut self.disk, self.at, self.len)? {
-            Head::End => Ok(Step::End),
+            Head::End => Ok(ReaderStep::End),
             Head::CutShort => Err(OpenFault::Damaged { at: self.at }),
             Head::Record(size) => self.pass(size),
         }
     }
 
     // Goes on behind a record whose payload has so many octets.
-    fn pass(&mut self, size: u32) -> Result<Step, OpenFault>
+    fn pass(&mut self, size: u32) -> Result<ReaderStep, OpenFault>
         requires { self.old.at + 5 + size ≤ self.old.len }
         ensures step { (payloads : List (List ℕ)) → HasComeTo self.old payloads
             → IsAtRecord self.old size
@@ -150,14 +150,14 @@ impl<D: Disk> SegmentReader<D> {
         }
         if size > LONGEST_GIVEN {
             self.at = end;
-            return Ok(Step::TooLong);
+            return Ok(ReaderStep::TooLong);
         }
         let count = size as usize;
         let from = self
             .window
             .hold(&mut self.disk, self.at + RECORD_HEAD, count)?;
         self.at = end;
-        Ok(Step::Held { from, count })
+        Ok(ReaderStep::Held { from, count })
     }
 
     /// Where the next record is to stand: how long the records are that were read, in octets.

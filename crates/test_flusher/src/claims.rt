@@ -7,7 +7,7 @@ ghost use Rattle.flusher.specs.Sealed.{IsFlushed};
 use crate::shared::{closed_sums, intake, peer_with_backlog};
 use conn_core::CxnId;
 use disk_model::{Disk, MemDisk};
-use flusher::{Blanks, Naming, Pace, Peer, Place, Post, PostFault, Who};
+use flusher::{Blanks, Naming, Pace, Place, Post, PostFault, PostPeer, Who};
 use recovery::Tape;
 use std::alloc::Global;
 use std::marker::Brand;
@@ -89,7 +89,7 @@ fn flushed<'a, D: Disk, N: Naming, R: Wait>(
 fn run_steps<D: Disk + Drop, N: Naming, R: Wait>(
     rt: &R,
     alloc: Global,
-    peers: Vec<Peer<D>>,
+    peers: Vec<PostPeer<D>>,
     intake: Tape<D>,
     blanks: Blanks,
 ) -> Result<Told, Fail>
@@ -110,7 +110,7 @@ fn run_steps<D: Disk + Drop, N: Naming, R: Wait>(
 fn on_disks<R: Wait>(
     rt: &R,
     alloc: Global,
-    peer: Peer<MemDisk>,
+    peer: PostPeer<MemDisk>,
     intake: Tape<MemDisk>,
 ) -> Result<Told, Fail>
     requires { IsFlushed peer.station }

@@ -8,7 +8,7 @@ use crate::shared::{Ending, counted_on_disks, fused_intake, fused_peer, outcome}
 use conn_core::CxnId;
 use disk_model::{Disk, FuseDisk, MemDisk};
 use flusher::{
-    Blanks, Closed, FeederShare, Free, Naming, Peer, Post, PostFault, Receipt, Reported,
+    Blanks, ClosedPost, FeederShare, Free, Naming, Post, PostFault, PostPeer, Receipt, Reported,
 };
 use peer_queue::{Limits, StationFault};
 use recovery::{Tape, TapeFault};
@@ -83,7 +83,7 @@ fn answer<D: Disk, N: Naming, R: Wait>(
 fn run_steps<N: Naming, R: Wait>(
     rt: &R,
     alloc: Global,
-    peers: Vec<Peer<FuseDisk<MemDisk>>>,
+    peers: Vec<PostPeer<FuseDisk<MemDisk>>>,
     intake: Tape<FuseDisk<MemDisk>>,
     blanks: Blanks,
 ) -> Result<Told, Fail>
@@ -141,7 +141,7 @@ const NOTHING: Told = Told {
 };
 
 // What each station owes, and what it answered, once it is opened again.
-fn counts(alloc: Global, closed: Closed<FuseDisk<MemDisk>>) -> Result<[(u64, u64); 3], Fail> {
+fn counts(alloc: Global, closed: ClosedPost<FuseDisk<MemDisk>>) -> Result<[(u64, u64); 3], Fail> {
     let mut counts = [(0, 0); 3];
     for (at, peer) in closed.peers.into_iter().enumerate() {
         let totals = counted_on_disks(alloc, peer)?;
@@ -155,9 +155,9 @@ fn counts(alloc: Global, closed: Closed<FuseDisk<MemDisk>>) -> Result<[(u64, u64
 fn on_disks<R: Wait>(
     rt: &R,
     alloc: Global,
-    first: Peer<FuseDisk<MemDisk>>,
-    second: Peer<FuseDisk<MemDisk>>,
-    third: Peer<FuseDisk<MemDisk>>,
+    first: PostPeer<FuseDisk<MemDisk>>,
+    second: PostPeer<FuseDisk<MemDisk>>,
+    third: PostPeer<FuseDisk<MemDisk>>,
     intake: Tape<FuseDisk<MemDisk>>,
 ) -> Result<Told, Fail>
     requires { IsFlushed first.station × IsFlushed second.station × IsFlushed third.station }

@@ -7,8 +7,8 @@ ghost use Rattle.flusher.specs.Sealed.{IsFlushed};
 use crate::shared::{counted_on_disks, fused_intake, fused_peer};
 use disk_model::{FuseDisk, MemDisk};
 use flusher::{
-    Blanks, CloseFault, Closed, FeederShare, Free, IntakeShare, Naming, Peer, Post, PostFault,
-    Unclosed,
+    Blanks, CloseFault, ClosedPost, FeederShare, Free, IntakeShare, Naming, Post, PostFault,
+    PostPeer, Unclosed,
 };
 use peer_queue::{Limits, StationFault};
 use recovery::Tape;
@@ -65,7 +65,7 @@ fn close<N: Naming, R: Wait>(
     post: Post<FuseDisk<MemDisk>, N>,
     lines: IntakeShare<N>,
     shares: (FeederShare<N>, FeederShare<N>, FeederShare<N>),
-) -> Result<Closed<FuseDisk<MemDisk>>, Fail> {
+) -> Result<ClosedPost<FuseDisk<MemDisk>>, Fail> {
     let (first, second, third) = shares;
     let Unclosed {
         post,
@@ -87,7 +87,7 @@ fn close<N: Naming, R: Wait>(
 fn run_steps<N: Naming, R: Wait>(
     rt: &R,
     alloc: Global,
-    peers: Vec<Peer<FuseDisk<MemDisk>>>,
+    peers: Vec<PostPeer<FuseDisk<MemDisk>>>,
     intake: Tape<FuseDisk<MemDisk>>,
     blanks: Blanks,
 ) -> Result<Told, Fail>
@@ -102,7 +102,7 @@ fn run_steps<N: Naming, R: Wait>(
     flush(rt, &post)?;
     let last = take(rt, &post, b"a/2 <z@y> p", &mut lines)?;
     let receipt = flush(rt, &post)?;
-    let Closed { peers, .. } = close(rt, post, lines, (first, second, third))?;
+    let ClosedPost { peers, .. } = close(rt, post, lines, (first, second, third))?;
     let peer = peers.into_iter().next().ok_or("a peer")?;
     Ok(Told {
         last,
@@ -114,7 +114,7 @@ fn run_steps<N: Naming, R: Wait>(
 fn on_disks<R: Wait>(
     rt: &R,
     alloc: Global,
-    peer: Peer<FuseDisk<MemDisk>>,
+    peer: PostPeer<FuseDisk<MemDisk>>,
     intake: Tape<FuseDisk<MemDisk>>,
 ) -> Result<Told, Fail>
     requires { IsFlushed peer.station }

@@ -7,8 +7,8 @@ ghost use Rattle.flusher.specs.Sealed.{IsFlushed};
 use crate::shared::{counted_on_disks, fused_intake, fused_peer};
 use disk_model::{Disk, FuseDisk, MemDisk};
 use flusher::{
-    Blanks, Closed, FeederShare, Flusher, Free, IntakeShare, Naming, Pace, Peer, Post, PostFault,
-    Receipt, Signals, Work, run_threads,
+    Blanks, ClosedPost, FeederShare, Flusher, Free, IntakeShare, Naming, Pace, Post, PostFault,
+    PostPeer, Receipt, Signals, Work, run_threads,
 };
 use log::Log;
 use peer_queue::{Limits, StationFault};
@@ -75,7 +75,7 @@ fn take<N: Naming, R: Wait>(
 fn filled<N: Naming, R: Wait>(
     rt: &R,
     alloc: Global,
-    peers: Vec<Peer<FuseDisk<MemDisk>>>,
+    peers: Vec<PostPeer<FuseDisk<MemDisk>>>,
     intake: Tape<FuseDisk<MemDisk>>,
     blanks: Blanks,
 ) -> Result<Told, Fail>
@@ -111,7 +111,7 @@ fn on_disk<N: Naming, R: Wait>(
     shares: (FeederShare<N>, FeederShare<N>, FeederShare<N>),
 ) -> Result<u64, Fail> {
     let (first, second, third) = shares;
-    let Ok(Closed { peers, .. }) = post.close(rt, lines, first, second, third) else {
+    let Ok(ClosedPost { peers, .. }) = post.close(rt, lines, first, second, third) else {
         return Err(Fail::from("memory"));
     };
     let peer = peers.into_iter().next().ok_or("a peer")?;
@@ -121,7 +121,7 @@ fn on_disk<N: Naming, R: Wait>(
 fn filled_on_disks<R: Wait>(
     rt: &R,
     alloc: Global,
-    peer: Peer<FuseDisk<MemDisk>>,
+    peer: PostPeer<FuseDisk<MemDisk>>,
     intake: Tape<FuseDisk<MemDisk>>,
 ) -> Result<Told, Fail>
     requires { IsFlushed peer.station }
@@ -217,7 +217,7 @@ struct Beside {
 fn flushed_beside<N: Naming + Send + Sync, R: AllocGlobal + Clock + Log + Threads + Wait + Sync>(
     rt: &R,
     alloc: Global,
-    peers: Vec<Peer<FuseDisk<MemDisk>>>,
+    peers: Vec<PostPeer<FuseDisk<MemDisk>>>,
     intake: Tape<FuseDisk<MemDisk>>,
     blanks: Blanks,
 ) -> Result<Beside, Fail>

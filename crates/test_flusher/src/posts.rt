@@ -7,7 +7,7 @@ ghost use Rattle.flusher.specs.Sealed.{IsFlushed};
 use crate::shared::{Ending, closed_sums, intake, outcome, peer};
 use conn_core::CxnId;
 use disk_model::{Disk, MemDisk};
-use flusher::{Blanks, FeederShare, Free, IntakeShare, Naming, Peer, Post, PostFault};
+use flusher::{Blanks, FeederShare, Free, IntakeShare, Naming, Post, PostFault, PostPeer};
 use ledger_core::{Debt, Key};
 use peer_queue::{Limits, Settled, StationFault};
 use recovery::{Tape, TapeFault};
@@ -146,7 +146,7 @@ fn steps_told<D: Disk, N: Naming, R: Wait>(
 fn run_steps<D: Disk + Drop, N: Naming, R: Wait>(
     rt: &R,
     alloc: Global,
-    peers: Vec<Peer<D>>,
+    peers: Vec<PostPeer<D>>,
     intake: Tape<D>,
     blanks: Blanks,
 ) -> Result<Told, Fail>
@@ -168,7 +168,7 @@ fn run_steps<D: Disk + Drop, N: Naming, R: Wait>(
 fn on_disks<R: Wait>(
     rt: &R,
     alloc: Global,
-    peer: Peer<MemDisk>,
+    peer: PostPeer<MemDisk>,
     intake: Tape<MemDisk>,
 ) -> Result<Told, Fail>
     requires { IsFlushed peer.station }
@@ -236,7 +236,7 @@ fn take<D: Disk, N: Naming, R: Wait>(
 fn fill<D: Disk + Drop, N: Naming, R: Wait>(
     rt: &R,
     alloc: Global,
-    peers: Vec<Peer<D>>,
+    peers: Vec<PostPeer<D>>,
     intake: Tape<D>,
     blanks: Blanks,
 ) -> Result<Filled, Fail>
@@ -276,8 +276,8 @@ fn fill<D: Disk + Drop, N: Naming, R: Wait>(
 fn fill_disks<R: Wait>(
     rt: &R,
     alloc: Global,
-    first: Peer<MemDisk>,
-    second: Peer<MemDisk>,
+    first: PostPeer<MemDisk>,
+    second: PostPeer<MemDisk>,
     intake: Tape<MemDisk>,
 ) -> Result<Filled, Fail>
     requires { IsFlushed first.station × IsFlushed second.station }

@@ -7,7 +7,7 @@ ghost use Rattle.flusher.specs.Sealed.{IsFlushed};
 use crate::shared::{closed_sums, intake, peer};
 use conn_core::CxnId;
 use disk_model::{Disk, MemDisk};
-use flusher::{Blanks, Naming, Peer, Post, PostFault, Sums};
+use flusher::{Blanks, Naming, Post, PostFault, PostPeer, Sums};
 use peer_queue::{Limits, StationFault};
 use recovery::Tape;
 use std::alloc::Global;
@@ -114,7 +114,7 @@ fn put_off<D: Disk, N: Naming, R: Wait>(rt: &R, post: &Post<D, N>) -> Result<(u6
 fn run_steps<D: Disk + Drop, N: Naming, R: Abort + Wait>(
     rt: &R,
     alloc: Global,
-    peers: Vec<Peer<D>>,
+    peers: Vec<PostPeer<D>>,
     intake: Tape<D>,
     blanks: Blanks,
 ) -> Result<Told, Fail>
@@ -143,7 +143,7 @@ fn run_steps<D: Disk + Drop, N: Naming, R: Abort + Wait>(
 fn on_disks<R: Abort + Wait>(
     rt: &R,
     alloc: Global,
-    peer: Peer<MemDisk>,
+    peer: PostPeer<MemDisk>,
     intake: Tape<MemDisk>,
 ) -> Result<Told, Fail>
     requires { IsFlushed peer.station }

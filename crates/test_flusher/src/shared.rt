@@ -4,7 +4,7 @@ ghost use Rattle.flusher.specs.Sealed.{IsFlushed};
 
 use conn_core::{Conn, CxnId, Options, Outcome};
 use disk_model::{Disk, FuseDisk, MemDisk};
-use flusher::{ClosedPeer, FeederShare, IntakeShare, Naming, Peer, Post, Sums};
+use flusher::{ClosedPeer, FeederShare, IntakeShare, Naming, Post, PostPeer, Sums};
 use funnel::{PeerName, read_backlog_line};
 use ledger_core::{Debt, Totals};
 use note_queue::Joined;
@@ -84,7 +84,7 @@ fn hear(conn: &mut Conn, octets: &[u8]) -> Result<(), Fail> {
 }
 
 // A peer that is owed nothing.
-pub(crate) fn peer(alloc: Global, name: &[u8], limits: Limits) -> Result<Peer<MemDisk>, Fail>
+pub(crate) fn peer(alloc: Global, name: &[u8], limits: Limits) -> Result<PostPeer<MemDisk>, Fail>
     ensures { IfOk result (λ p. IsFlushed p.station) }
 {
     peer_on(
@@ -100,7 +100,7 @@ pub(crate) fn peer_with_backlog(
     alloc: Global,
     name: &[u8],
     number: u64,
-) -> Result<Peer<MemDisk>, Fail>
+) -> Result<PostPeer<MemDisk>, Fail>
     ensures { IfOk result (λ p. IsFlushed p.station) }
 {
     let mut made = peer(alloc, name, UNLIMITED)?;
@@ -116,7 +116,7 @@ pub(crate) fn fused_peer(
     name: &[u8],
     limits: Limits,
     calls: u64,
-) -> Result<Peer<FuseDisk<MemDisk>>, Fail>
+) -> Result<PostPeer<FuseDisk<MemDisk>>, Fail>
     ensures { IfOk result (λ p. IsFlushed p.station) }
 {
     let first = fused(alloc, calls.saturating_add(OPENING_CALLS));
@@ -133,12 +133,12 @@ fn peer_on<D: Disk + Drop>(
     name: &[u8],
     disks: (D, D),
     limits: Limits,
-) -> Result<Peer<D>, Fail>
+) -> Result<PostPeer<D>, Fail>
     ensures { IfOk result (λ p. IsFlushed p.station) }
 {
     let (a, b) = disks;
     let name = PeerName::read(alloc, name)?.ok_or("a name")?;
-    match Peer::open(alloc, name, a, b, limits) {
+    match PostPeer::open(alloc, name, a, b, limits) {
         Ok(peer) => Ok(peer),
         Err(refused) => Err(Fail::from(refused.fault)),
     }

@@ -9,8 +9,8 @@ use crate::shared::{Ending, counted_on_disks, fused_intake, fused_peer, outcome}
 use conn_core::{CxnId, Outcome};
 use disk_model::{Disk, FuseDisk, MemDisk};
 use flusher::{
-    Blanks, Closed, ClosedPeer, FeederShare, Flusher, IntakeShare, Naming, NoThread, Pace, Peer,
-    Place, Post, PostFault, Signals, Sums, Who, Work, run_feeders, run_threads,
+    Blanks, ClosedPeer, ClosedPost, FeederShare, Flusher, IntakeShare, Naming, NoThread, Pace,
+    Place, Post, PostFault, PostPeer, Signals, Sums, Who, Work, run_feeders, run_threads,
 };
 use ledger_core::FinalCode;
 use log::Log;
@@ -324,7 +324,7 @@ fn meet<N: Naming + Send + Sync, R: AllocGlobal + Clock + Log + Threads + Wait +
     rt: &R,
     alloc: Global,
     row: &Row,
-    peers: Vec<Peer<FuseDisk<MemDisk>>>,
+    peers: Vec<PostPeer<FuseDisk<MemDisk>>>,
     intake: Tape<FuseDisk<MemDisk>>,
     blanks: Blanks,
 ) -> Result<Told, Fail>
@@ -377,7 +377,7 @@ fn meet<N: Naming + Send + Sync, R: AllocGlobal + Clock + Log + Threads + Wait +
     let Taker { share, number, .. } = taker;
     match post.close(rt, share, one, two, three) {
         Ok(
-            Closed {
+            ClosedPost {
                 peers,
                 intake,
                 sums,

@@ -25,7 +25,7 @@ use crate::lines::{Intake, line_of};
 use crate::times::Times;
 use anyhow::{Context, Result, bail};
 use disk_model::{Disk, MemDisk, TapeDirectory};
-use flusher::{Blanks, Flusher, Free, IntakeShare, Naming, Peer, Post, Signals, run_threads};
+use flusher::{Blanks, Flusher, Free, IntakeShare, Naming, Post, PostPeer, Signals, run_threads};
 use funnel::PeerName;
 use log::Log;
 use peer_queue::Limits;
@@ -143,12 +143,12 @@ fn measure<D: Disk + Drop + Send, R: AllocGlobal + Clock + Log + Threads + Wait 
     work::<Brand, D, R>(rt, peers, intake, blanks, count)
 }
 
-fn peer_on<D: Disk + Drop>(alloc: Global, name: &[u8], disks: (D, D)) -> Result<Peer<D>>
+fn peer_on<D: Disk + Drop>(alloc: Global, name: &[u8], disks: (D, D)) -> Result<PostPeer<D>>
     ensures { IfOk result (λ p. IsFlushed p.station) }
 {
     let (a, b) = disks;
     let name = PeerName::read(alloc, name)?.context("a name")?;
-    match Peer::open(alloc, name, a, b, UNLIMITED) {
+    match PostPeer::open(alloc, name, a, b, UNLIMITED) {
         Ok(peer) => Ok(peer),
         Err(_) => bail!("a tape was not opened"),
     }
@@ -158,7 +158,7 @@ fn work<
     N: Naming + Send + Sync,
     D: Disk + Drop + Send,
     R: AllocGlobal + Clock + Log + Threads + Wait + Sync,
->(rt: &R, peers: Vec<Peer<D>>, intake: Tape<D>, blanks: Blanks, count: u64) -> Result<Measured>
+>(rt: &R, peers: Vec<PostPeer<D>>, intake: Tape<D>, blanks: Blanks, count: u64) -> Result<Measured>
     requires names { N.names ≡ names_of blanks peers.items }
     requires blanks { IsFor (length peers.items) blanks }
     requires flushed { All (λ p. IsFlushed p.station) peers.items }

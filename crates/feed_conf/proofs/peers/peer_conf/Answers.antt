@@ -1,7 +1,7 @@
 -- The limit and the factor of a backlog are at most the greatest of their keys.
 use Rattle.std.proofs.Common.{◌≤◌, sym, subst}
 use Rattle.feed_conf.specs.ReaderView.{declared_view}
-use Rattle.feed_conf.specs.declared.key.Key.TheVariants.{BacklogLimit, BacklogFactor}
+use Rattle.feed_conf.specs.declared.key.SettingKey.TheVariants.{BacklogLimit, BacklogFactor}
 use Rattle.feed_conf.proofs.Bounds.{value-within, product-fits}
 use Rattle.feed_conf.proofs.peers.peer_conf.Goals as goal
 

@@ -1,7 +1,7 @@
 -- The last use so far of each key in each block.
 use Rattle.std.proofs.Common.{[]}
 use Rattle.feed_conf.specs.declared.reader.Use.{Use}
-use Rattle.feed_conf.specs.declared.key.Key.TheVariants.{IpName}
+use Rattle.feed_conf.specs.declared.key.SettingKey.TheVariants.{IpName}
 use Rattle.feed_conf.specs.declared.value.Value.TheVariants.{Text}
 use Rattle.feed_conf.proofs.Tables.{table-more}
 use Rattle.feed_conf.proofs.table.table_of.Goals as goal

@@ -7,11 +7,11 @@ use Rattle.std.proofs.lemmas.Map.Keys.{ge_from_not_lt}
 use Rattle.std.proofs.lemmas.Option.{get_or_from_slice_get, slice_get_within}
 use Rattle.ledger_core.specs.Spots.{Entries, debts_of}
 use Rattle.ledger_core.specs.State.{keys_in}
-use Rattle.ledger_core.specs.declared.spot.Entry.{Entry}
+use Rattle.ledger_core.specs.declared.spot.DebtEntry.{DebtEntry}
 use Rattle.ledger_core.proofs.Debts.{keys-kept}
 use Rattle.ledger_core.proofs.ledger.Ledger.is_above_all.Goals as goal
 
-abbrev key_in : ℕ × Entry → ℕ
+abbrev key_in : ℕ × DebtEntry → ℕ
 key_in entry = entry.0
 
 -- a key above the last is above all
@@ -22,7 +22,7 @@ above-last entries last key all low =
     (λ k d within. omega (arith, low, ge_from_not_lt last (get_or (map key_in entries) k d) (all k d within)))
 
 -- and a key above all is above the last
-last-below : (entries : Entries) (last key : ℕ) (entry : Entry)
+last-below : (entries : Entries) (last key : ℕ) (entry : DebtEntry)
     → slice_get entries (length entries - 1) ≡ Some (last, entry) → All (λ n. n < key) (keys_in (debts_of entries))
     → last < key
 last-below entries last key entry e all =

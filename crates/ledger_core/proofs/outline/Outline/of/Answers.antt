@@ -16,13 +16,13 @@ use Rattle.ledger_core.specs.Shape.{Size, octets_sized, shape_of}
 use Rattle.ledger_core.specs.ShapeLaws.{sizes-octets}
 use Rattle.ledger_core.specs.Spots.{debts_of}
 use Rattle.ledger_core.specs.State.{IsPast}
-use Rattle.ledger_core.specs.declared.spot.Entry.{Entry}
+use Rattle.ledger_core.specs.declared.spot.DebtEntry.{DebtEntry}
 use Rattle.ledger_core.proofs.outline.Outline.of.Goals as goal
 
 pub loop-key-preserved : goal.loop-key-preserved
 loop-key-preserved c =
     let loop = c.loop-key in
-    let item : Bor ℕ × Bor Entry = (c.in-Some.key, c.in-Some.entry) in
+    let item : Bor ℕ × Bor DebtEntry = (c.in-Some.key, c.in-Some.entry) in
     c.in_ok-insert.ensures.entries
     ∙ (ap (λ (p : ℕ × ℕ). insert_entry nat_cmp loop.debts.entries c.in-Some.key.now p)
     (c.of.ensures ∙ ap (λ (n : ℕ). (0, n)) c.octets_kept.ensures)

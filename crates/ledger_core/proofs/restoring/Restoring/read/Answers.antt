@@ -2,7 +2,7 @@ use Rattle.std.proofs.Common.{[], ◌∷◌, ◌+◌, ◌≤◌, ◌++◌, lengt
 use Rattle.ledger_core.specs.Index.{Indexes}
 use Rattle.ledger_core.specs.Ledger.{state_of}
 use Rattle.ledger_core.specs.Restoring.{HasRead}
-use Rattle.ledger_core.specs.declared.restoring.Stage.{Stage}
+use Rattle.ledger_core.specs.declared.restoring.RestoreStage.{RestoreStage}
 use Rattle.ledger_core.proofs.Taking.{indexed-next, on-ok-each}
 use Rattle.ledger_core.proofs.restoring.Restoring.read.Goals as goal
 
@@ -22,5 +22,6 @@ returns-in-Begun-clause-indexes c = λ payloads gone.
 
 pub returns-in-Begun-clause-refused : goal.returns-in-Begun-clause-refused
 returns-in-Begun-clause-refused c = λ payloads gone told e.
-    let reads = subst (λ (s : Stage). HasRead s (state_of c.args.self.now.ledger) payloads) c.in-Begun.is gone.reads in
+    let reads = subst (λ (s : RestoreStage). HasRead s (state_of c.args.self.now.ledger) payloads) c.in-Begun.is
+    gone.reads in
     c.read_next.ensures.refused c.in-Begun.generation payloads reads told e

@@ -24,7 +24,7 @@ use Rattle.ledger_core.specs.WrittenLaws.{restores-on}
 use Rattle.recovery.specs.LeavingLaws.{cut-none, cut-payloads}
 use Rattle.recovery.specs.Pending.{payloads_in}
 use Rattle.recovery.specs.Notes.{AreLegal, flushed}
-use Rattle.recovery.specs.declared.segments.Segments.{Segments}
+use Rattle.recovery.specs.declared.segments.TapeSegments.{TapeSegments}
 use Rattle.recovery.proofs.Counts.{live_risen}
 use Rattle.recovery.proofs.Stands.{stands_whole, stands_refused, flush_moments, same_tape}
 use Rattle.recovery.specs.Pairs.{placed}
@@ -57,7 +57,7 @@ full_told AppendBroken e short = absurd (cc e)
 full_told NoAppendMemory e short = absurd (cc e)
 
 -- a segment whose journal is the same is the same
-same_segments : {D : Type 0} {g : Ghosts D} (segments : Segments D g) (live : Journal D g) → live ≡ segments.live →
+same_segments : {D : Type 0} {g : Ghosts D} (segments : TapeSegments D g) (live : Journal D g) → live ≡ segments.live →
     record segments { live = live } ≡ segments
 same_segments segments live same = ap (λ (j : Journal _ _). record segments { live = j }) same
 

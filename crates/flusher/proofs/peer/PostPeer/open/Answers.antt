@@ -1,5 +1,5 @@
 use Rattle.recovery.specs.Notes.{found}
-use Rattle.flusher.proofs.peer.Peer.open.Goals as goal
+use Rattle.flusher.proofs.peer.PostPeer.open.Goals as goal
 
 pub invariant_of-result : goal.invariant_of-result
 invariant_of-result g c = record {

@@ -1,5 +1,5 @@
 use Rattle.flusher.proofs.Keeps.{keeps_owed}
-use Rattle.flusher.proofs.peer.Peer.import.Goals as goal
+use Rattle.flusher.proofs.peer.PostPeer.import.Goals as goal
 
 pub invariant_of-self : goal.invariant_of-self
 invariant_of-self g c =
