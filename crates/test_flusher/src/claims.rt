@@ -1,4 +1,4 @@
-// Claims of a peer while its tape is in use, in one thread.
+// Claims of a peer's debts while its tape is in use, in one thread.
 ghost use Rattle.std.specs.Prelude.{◌≡◌, ◌<◌, length};
 ghost use Rattle.std.specs.List.{All};
 ghost use Rattle.flusher.specs.Post.{IsFor, names_of};
@@ -15,7 +15,7 @@ use std::sync::Wait;
 use std::sync::atomic::{AtomicU64, Ordering};
 use std::test::*;
 
-// What is told of a claim, in place of a number.
+// What stands for the number of a claim that gives none.
 const NONE: u64 = 1_000;
 
 const BUSY: u64 = 1_001;
@@ -42,7 +42,7 @@ impl<D: Disk, N: Naming, R: Wait> Pace for Asking<'_, D, N, R> {
     }
 }
 
-// What a claim that waits for nobody is told: the number of a debt, or why there is none.
+// What a claim that doesn't wait gives: the number of a debt, or why there is none.
 fn claimed<D: Disk, N: Naming, R: Wait>(rt: &R, post: &Post<D, N>) -> u64 {
     if post.peers() == 0 {
         return REFUSED;
@@ -55,7 +55,7 @@ fn claimed<D: Disk, N: Naming, R: Wait>(rt: &R, post: &Post<D, N>) -> u64 {
     }
 }
 
-// What is told in the flush, and behind it.
+// What the claims give during the flush and after it.
 #[derive(Clone, Copy, Debug, PartialEq, Eq)]
 struct Told {
     first: u64,
@@ -65,7 +65,7 @@ struct Told {
     taken: u64,
 }
 
-// Flushes a post, and claims in the flush and behind it.
+// Flushes a post, and claims during the flush and after it.
 fn flushed<'a, D: Disk, N: Naming, R: Wait>(
     rt: &'a R,
     post: &'a Post<D, N>,
@@ -120,8 +120,8 @@ fn on_disks<R: Wait>(
     run_steps::<MemDisk, Brand, R>(rt, alloc, peers, intake, blanks)
 }
 
-// The line's debt is claimed in the flush, since its front has the texts. The texts of the imported one are on the tape
-// alone: it is ready again behind the flush.
+// The line's debt is claimed during the flush, since its front has the texts. The texts of the imported one are only on
+// the tape: that debt is ready again after the flush.
 #[test]
 fn what_only_the_tape_has_is_refused_in_its_flush(rt: HostRuntime) -> Result<(), Fail> {
     let alloc = rt.alloc();

@@ -1,4 +1,4 @@
-// A post in one thread, one of whose three peers has a disk that fails.
+// A post in one thread. One of its three peers has a disk that fails.
 ghost use Rattle.std.specs.Prelude.{◌≡◌, ◌<◌, length};
 ghost use Rattle.std.specs.List.{All};
 ghost use Rattle.flusher.specs.Post.{IsFor, names_of};
@@ -23,10 +23,10 @@ const UNLIMITED: Limits = Limits {
     drop_deferred: false,
 };
 
-// So many calls of the first disk a flush makes. The claim of a debt behind it makes none: its front has the texts.
+// How many calls of the first disk a flush makes. A claim after it makes none, since the front has the texts.
 const FLUSH_CALLS: u64 = 5;
 
-// What is counted of a peer: what is owed and what was answered, and whether a flush has failed.
+// What is counted of a peer: how much is owed and was answered, and whether a flush has failed.
 #[derive(Clone, Copy, Debug, PartialEq, Eq)]
 struct Figures {
     owed: u64,
@@ -34,7 +34,7 @@ struct Figures {
     has_failed: bool,
 }
 
-// What is told where the tape of the second of three peers fails at the second flush, behind which each has answered.
+// What comes of it if the tape of the second of three peers fails at the second flush, after each peer has answered.
 #[derive(Clone, Copy, Debug, PartialEq, Eq)]
 struct Told {
     first: Result<u64, PostFault>,
@@ -42,7 +42,7 @@ struct Told {
     working: Result<(), PostFault>,
     third: Result<u64, PostFault>,
     reported: [Figures; 3],
-    // What is owed, and was answered, at each station once it is opened again.
+    // How much is owed, and was answered, at each station once it is opened again.
     on_disks: [(u64, u64); 3],
 }
 
@@ -140,7 +140,6 @@ const NOTHING: Told = Told {
     on_disks: [(0, 0); 3],
 };
 
-// What each station owes, and what it answered, once it is opened again.
 fn counts(alloc: Global, closed: ClosedPost<FuseDisk<MemDisk>>) -> Result<[(u64, u64); 3], Fail> {
     let mut counts = [(0, 0); 3];
     for (at, peer) in closed.peers.into_iter().enumerate() {
@@ -183,8 +182,7 @@ const ANSWERED: Figures = Figures {
     has_failed: false,
 };
 
-// The flush that fails leaves the third peer's answer where it pends; that of the stations that work puts it on the
-// disk.
+// The flush that fails leaves the third peer's answer pending; the flush of the stations that work puts it on the disk.
 const WANT: Told = Told {
     first: Ok(1),
     second: Err(FAILED),

@@ -1,4 +1,4 @@
-// Notes that are refused memory on their way to a tape, in one thread.
+// Notes to which memory is refused on their way to a tape, in one thread.
 ghost use Rattle.std.specs.Prelude.{◌≡◌, length};
 ghost use Rattle.std.specs.List.{All};
 ghost use Rattle.flusher.specs.Post.{IsFor, names_of};
@@ -23,16 +23,16 @@ const UNLIMITED: Limits = Limits {
     drop_deferred: false,
 };
 
-// What is told of two lines, of which one allocation at most was refused.
+// What comes of two lines, if at most one allocation is refused.
 #[derive(Clone, Copy, Debug, PartialEq, Eq)]
 struct Told {
     last: u64,
     receipt: u64,
-    // What the peer's station has taken, once it is opened again.
+    // What the peer's station has taken once it is opened again.
     on_disk: u64,
 }
 
-// Takes a line; if memory is refused it is given again.
+// Takes a line; if memory is refused, the line is given again.
 fn take<N: Naming, R: Wait>(
     rt: &R,
     post: &Post<FuseDisk<MemDisk>, N>,
@@ -51,7 +51,6 @@ fn take<N: Naming, R: Wait>(
     }
 }
 
-// Flushes; if that is refused, once more.
 fn flush<N: Naming, R: Wait>(rt: &R, post: &Post<FuseDisk<MemDisk>, N>) -> Result<u64, PostFault> {
     match post.flush_all(rt, &Free) {
         Ok(receipt) => Ok(receipt.number()),
@@ -124,7 +123,7 @@ fn on_disks<R: Wait>(
     run_steps::<Brand, R>(rt, alloc, peers, intake, blanks)
 }
 
-// With each allocation refused in turn, too: a note that a queue or a tape has no memory for is not lost.
+// Also with each allocation refused in turn: a note for which a queue or a tape had no memory is not lost.
 #[test]
 fn both_notes_reach_the_tape(rt: HostRuntime) -> Result<(), Fail> {
     let alloc = rt.alloc();

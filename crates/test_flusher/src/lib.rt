@@ -1,9 +1,8 @@
-//! The tests of posts, of their workers in threads and of their end, over disks in memory, as rows.
+//! The tests of posts, of their workers in threads and of how they end, over disks in memory, as rows.
 //!
-//! May touch memory and start threads; it calls what `flusher` and the crates below it make public, and nothing stands
-//! on it.
-//! It is a crate of its own so that `flusher` is not proved a second time with its tests. Each test ends whatever the
-//! schedule is.
+//! May touch memory and start threads. It calls what `flusher` and the crates below it make public, and nothing stands
+//! on it. It is a crate of its own so that `flusher` is not proved a second time with its tests. Each test ends
+//! whatever the schedule is.
 #![tactic(auto)]
 
 #[cfg(test)]

@@ -26,8 +26,8 @@ const UNLIMITED: Limits = Limits {
     drop_deferred: false,
 };
 
-// A note of this line has 19 octets, so a batch of at most 65,536 octets, 5 of which are its tag and count, has 3,449
-// of them.
+// A note of this line has 19 octets. So a batch of at most 65,536 octets, 5 of which are its tag and count, has 3,449
+// notes.
 const LINE: &[u8] = b"a/1 <x@y> p";
 
 // How many lines are given: 4,464 more than may pend.
@@ -36,16 +36,16 @@ const LINES: u64 = 70_000;
 // The calls of two flushes, of 20 batches and then of two: a write, a sync, a gate for each batch, and a sync.
 const CALLS: u64 = 23 + 5;
 
-// What is told of the lines and of three flushes.
+// What comes of the lines and of three flushes.
 #[derive(Clone, Copy, Debug, PartialEq, Eq)]
 struct Told {
     taken: u64,
     refused: u64,
     full: Result<u64, PostFault>,
     rest: Result<u64, PostFault>,
-    // That of one line more, for which the disk has no call left.
+    // The flush of one more line, for which the disk has no call left.
     last: Result<u64, PostFault>,
-    // What the station has taken, once it is opened again.
+    // What the station has taken once it is opened again.
     on_disk: u64,
 }
 
@@ -56,7 +56,6 @@ fn number(told: Result<Receipt, PostFault>) -> Result<u64, PostFault> {
     }
 }
 
-// How many of so many lines are taken, and how many refused.
 fn take<N: Naming, R: Wait>(
     rt: &R,
     post: &Post<FuseDisk<MemDisk>, N>,
@@ -102,7 +101,7 @@ fn filled<N: Naming, R: Wait>(
     })
 }
 
-// What the one station of a post has taken, once it is opened again from its disks.
+// What the only station of a post has taken once it is opened again from its disks.
 fn on_disk<N: Naming, R: Wait>(
     rt: &R,
     alloc: Global,
@@ -131,7 +130,7 @@ fn filled_on_disks<R: Wait>(
     filled::<Brand, R>(rt, alloc, peers, intake, blanks)
 }
 
-// As many notes as may pend are one flush, though the queue has room for 1,024.
+// All notes that may pend are one flush, though the queue has room for only 1,024.
 #[test]
 fn a_full_front_is_flushed_at_once(rt: HostRuntime) -> Result<(), Fail> {
     let alloc = rt.alloc();
@@ -152,12 +151,12 @@ fn a_full_front_is_flushed_at_once(rt: HostRuntime) -> Result<(), Fail> {
     Ok(())
 }
 
-// How many lines are taken beside the flushes, and after how many a flush is ordered.
+// How many lines are taken while others are flushed, and after how many of them a flush is ordered.
 const BESIDE: u64 = 5_000;
 
 const BATCH: u64 = 50;
 
-// The intake. It takes its lines, waits for no flush but the last one that it orders, and is told that one's receipt.
+// The intake. It takes its lines, waits only for the last flush that it orders, and keeps that one's receipt.
 #[derive(Drop)]
 struct Taker<N: Naming> {
     share: IntakeShare<N>,
@@ -205,7 +204,7 @@ impl<D: Disk, N: Naming> Work<D, N> for Idle<N> {
     ) {}
 }
 
-// What the intake was told, and what the station has taken, once it is opened again.
+// What receipt the intake got, and what the station has taken once it is opened again.
 #[derive(Clone, Copy, Debug, PartialEq, Eq)]
 struct Beside {
     taken: u64,
@@ -272,7 +271,7 @@ fn beside_on_disks<R: AllocGlobal + Clock + Log + Threads + Wait + Sync>(
     flushed_beside::<Brand, R>(rt, alloc, peers, fused_intake(alloc)?, blanks)
 }
 
-// Each line is taken once while others are flushed, and what the last receipt says is on the disk.
+// Each line is taken once while others are flushed, and what the last receipt acknowledges is on the disk.
 #[test]
 fn lines_are_taken_beside_flushes(rt: HostRuntime) -> Result<(), Fail> {
     let alloc = rt.alloc();

@@ -15,8 +15,8 @@ pub(crate) struct At {
     pub(crate) place: Place,
 }
 
-// Who comes to the first place waits until one has come to the last, and who comes to the second until one has come to
-// the first.
+// Whoever comes to the first place waits until one has come to the last, and whoever comes to the second waits until
+// one has come to the first.
 #[derive(Drop)]
 pub(crate) struct Meeting {
     first: At,
@@ -39,7 +39,7 @@ impl Meeting {
         }
     }
 
-    // Whether one waited to no end.
+    // Whether one waited in vain.
     pub(crate) fn gave_up(&self) -> bool {
         self.gave_up.load(Ordering::SeqCst)
     }

@@ -1,4 +1,4 @@
-// A post in one thread: what is shed, claimed, given back, released and deferred.
+// A post in one thread: debts that are shed, claimed, given back, released and deferred.
 ghost use Rattle.std.specs.Prelude.{◌≡◌, ◌<◌, length};
 ghost use Rattle.std.specs.List.{All};
 ghost use Rattle.flusher.specs.Post.{IsFor, names_of};
@@ -22,7 +22,7 @@ const LIMITED: Limits = Limits {
     drop_deferred: false,
 };
 
-// The debt that a connection claims of the first peer at this moment.
+// The debt of the first peer that a connection claims at this moment.
 fn claim<D: Disk, N: Naming, R: Wait>(
     rt: &R,
     post: &Post<D, N>,
@@ -34,7 +34,7 @@ fn claim<D: Disk, N: Naming, R: Wait>(
     Ok(post.claim(rt, 0, connection, now)?.ok_or("a debt")?)
 }
 
-// Claims a debt of the first peer, and finishes it at the moment 0.
+// Claims a debt of the first peer, and finishes it at moment 0.
 fn finish<D: Disk, N: Naming, R: Wait>(
     rt: &R,
     alloc: Global,
@@ -54,7 +54,6 @@ fn finish<D: Disk, N: Naming, R: Wait>(
     }
 }
 
-// The number of the debt that a connection claims of the first peer at this moment.
 fn claim_number<D: Disk, N: Naming, R: Wait>(
     rt: &R,
     post: &Post<D, N>,
@@ -66,7 +65,7 @@ fn claim_number<D: Disk, N: Naming, R: Wait>(
     Ok(claim(rt, post, connection, now)?.key().number())
 }
 
-// What is told of twelve debts of ten octets, of which at most a hundred octets are kept.
+// What comes of twelve debts of ten octets, of which at most a hundred octets are kept.
 #[derive(Debug, PartialEq, Eq, Drop)]
 struct Told {
     shed: Vec<Key>,
@@ -74,7 +73,7 @@ struct Told {
     dropped: u64,
 }
 
-// What is told of the debts that come again.
+// What comes of the debts that are ready again.
 #[derive(Clone, Copy, Debug, PartialEq, Eq)]
 struct Again {
     back: (u64, Settled),
@@ -85,7 +84,6 @@ struct Again {
     at_60: u64,
 }
 
-// Takes the lines of twelve debts, and sheds what is not kept.
 fn take_and_shed<D: Disk, N: Naming, R: Wait>(
     rt: &R,
     post: &Post<D, N>,
@@ -100,7 +98,7 @@ fn take_and_shed<D: Disk, N: Naming, R: Wait>(
     Ok(post.shed(rt, 0, share)?.keys)
 }
 
-// Claims debts that come again: one that is given back, one that is released, and one that is put off.
+// Claims debts that are ready again: one that is given back, one that is released, and one that is put off.
 fn claim_again<D: Disk, N: Naming, R: Wait>(
     rt: &R,
     alloc: Global,
@@ -123,7 +121,7 @@ fn claim_again<D: Disk, N: Naming, R: Wait>(
     })
 }
 
-// What is told before the post is closed.
+// What comes of the steps before the post is closed.
 //
 // proof: over a borrowed post, so that no way out of a step drops the post and its shares.
 fn steps_told<D: Disk, N: Naming, R: Wait>(
@@ -203,18 +201,18 @@ const MOST: u64 = 65_536;
 
 const HALF: u64 = 32_768;
 
-// What is told where lines fill the station of q, and one then comes for p and q.
+// What comes of lines that fill the station of q, and of one line for p and q after them.
 #[derive(Clone, Copy, Debug, PartialEq, Eq)]
 struct Filled {
-    // Whether q was newly half full: a line before half, at half, and asked once more.
+    // Whether q was newly half full: one line before half, at half, and when asked again.
     half: (bool, bool, bool),
     refused: PostFault,
-    // The line's number, given again.
+    // The number of the line when it is given again.
     number: u64,
     taken: u64,
 }
 
-// Takes a line; where memory is refused it is given again.
+// Takes a line; if memory is refused, the line is given again.
 fn take<D: Disk, N: Naming, R: Wait>(
     rt: &R,
     post: &Post<D, N>,

@@ -1,4 +1,4 @@
-// The room that is counted of a peer's connections, and debts that are put off, in one thread.
+// The room that is counted for a peer's connections, and debts that are put off, in one thread.
 ghost use Rattle.std.specs.Prelude.{◌≡◌, ◌<◌, length};
 ghost use Rattle.std.specs.List.{All};
 ghost use Rattle.flusher.specs.Post.{IsFor, names_of};
@@ -24,7 +24,7 @@ const UNLIMITED: Limits = Limits {
 
 #[derive(Clone, Copy)]
 enum Step {
-    // Room for so many debts is asked for, and whether it was counted.
+    // Room for this many debts is asked for, and whether it was counted.
     Take(u64, bool),
     Give(u64),
     Fail(bool),
@@ -50,7 +50,6 @@ const STEPS: [Step; 16] = [
     Step::Take(1, false),
 ];
 
-// Takes these steps at the first peer.
 fn play<D: Disk, N: Naming, A: Abort>(rt: &A, post: &Post<D, N>, steps: &[Step])
     requires { 0 < length post.now.names }
 {
@@ -59,7 +58,6 @@ fn play<D: Disk, N: Naming, A: Abort>(rt: &A, post: &Post<D, N>, steps: &[Step])
     }
 }
 
-// Takes the step at this place.
 fn take_step<D: Disk, N: Naming, A: Abort>(rt: &A, post: &Post<D, N>, at: usize, step: Step)
     requires { 0 < length post.now.names }
 {
@@ -72,10 +70,10 @@ fn take_step<D: Disk, N: Naming, A: Abort>(rt: &A, post: &Post<D, N>, at: usize,
     }
 }
 
-// What comes of a debt that is put off at the first peer, and then once more by who does not hold it.
+// What comes of a debt that is put off at the first peer, and then again by a connection that does not hold it.
 #[derive(Clone, Copy, Debug, PartialEq, Eq)]
 struct Told {
-    // The debt that is claimed before the moment, and at it.
+    // The debt that is claimed before the moment, and at the moment.
     before: u64,
     then: u64,
     refused: (u64, PostFault),
@@ -96,7 +94,7 @@ fn claimed<D: Disk, N: Naming, R: Wait>(
     }
 }
 
-// Puts the first peer's first debt off until the moment 60, and once more by who does not hold it.
+// Puts the first peer's first debt off until moment 60, and then again by a connection that does not hold it.
 fn put_off<D: Disk, N: Naming, R: Wait>(rt: &R, post: &Post<D, N>) -> Result<(u64, PostFault), Fail>
     requires { 0 < length post.now.names }
 {

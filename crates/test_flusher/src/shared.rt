@@ -1,4 +1,4 @@
-// Peers of a post, and debts that their peers answer.
+// Peers of a post, and debts that these peers answer.
 ghost use Rattle.std.specs.Prelude.{IfOk};
 ghost use Rattle.flusher.specs.Sealed.{IsFlushed};
 
@@ -29,10 +29,10 @@ const UNLIMITED: Limits = Limits {
     drop_deferred: false,
 };
 
-// How many calls of its first disk the opening of a station makes whose disks are empty.
+// How many calls of its first disk the opening of a station with empty disks makes.
 const OPENING_CALLS: u64 = 5;
 
-// How a connection comes to an end of a debt.
+// How a debt ends at a connection.
 #[derive(Clone, Copy)]
 pub(crate) enum Ending {
     NotWanted,
@@ -40,7 +40,7 @@ pub(crate) enum Ending {
     Broken,
 }
 
-// What becomes of a debt that a connection is handed.
+// What becomes of a debt that is handed to a connection.
 pub(crate) fn outcome(
     alloc: Global,
     connection: CxnId,
@@ -54,8 +54,8 @@ pub(crate) fn outcome(
 
 // A connection that was handed this debt.
 //
-// proof: here and in the functions below what the calls of a connection ensure is left behind, so that `outcome`
-// carries none of it.
+// proof: here and below in functions of their own, so that the proof of `outcome` doesn't carry what the connection's
+// calls ensure.
 fn holding(alloc: Global, connection: CxnId, debt: Debt) -> Result<Conn, Fail> {
     let mut conn = Conn::new(alloc, connection, STREAMING)?;
     hear(&mut conn, b"200 ready\r\n203 ok\r\n")?;
@@ -65,7 +65,7 @@ fn holding(alloc: Global, connection: CxnId, debt: Debt) -> Result<Conn, Fail> {
     }
 }
 
-// Has a connection come to an end of its debt.
+// Makes a connection end its debt.
 fn come_to(conn: &mut Conn, ending: Ending) -> Result<(), Fail> {
     match ending {
         Ending::NotWanted => hear(conn, b"438 <x@y>\r\n"),
@@ -77,7 +77,7 @@ fn come_to(conn: &mut Conn, ending: Ending) -> Result<(), Fail> {
     }
 }
 
-// Has a connection read what its peer writes.
+// Makes a connection read what its peer writes.
 fn hear(conn: &mut Conn, octets: &[u8]) -> Result<(), Fail> {
     conn.input(octets)?;
     Ok(())
@@ -95,7 +95,7 @@ pub(crate) fn peer(alloc: Global, name: &[u8], limits: Limits) -> Result<PostPee
     )
 }
 
-// A peer that is owed a debt of this number, from a backlog file, which is on its tape.
+// A peer that is owed one debt of this number, from a backlog file; the debt is on its tape.
 pub(crate) fn peer_with_backlog(
     alloc: Global,
     name: &[u8],
@@ -110,7 +110,7 @@ pub(crate) fn peer_with_backlog(
     Ok(made)
 }
 
-// A peer that is owed nothing, whose first disk passes so many calls once its station is opened.
+// A peer that is owed nothing. Its first disk passes this many calls once its station is opened.
 pub(crate) fn fused_peer(
     alloc: Global,
     name: &[u8],
@@ -127,7 +127,6 @@ fn fused(alloc: Global, calls: u64) -> FuseDisk<MemDisk> {
     FuseDisk::new(MemDisk::new(alloc), calls)
 }
 
-// A peer whose station is opened from these disks.
 fn peer_on<D: Disk + Drop>(
     alloc: Global,
     name: &[u8],
@@ -144,12 +143,11 @@ fn peer_on<D: Disk + Drop>(
     }
 }
 
-// An intake tape on which nothing is noted.
 pub(crate) fn intake(alloc: Global) -> Result<Tape<MemDisk>, Fail> {
     intake_on(alloc, (MemDisk::new(alloc), MemDisk::new(alloc)))
 }
 
-// One on disks that pass every call.
+// An intake tape on disks that pass every call.
 pub(crate) fn fused_intake(alloc: Global) -> Result<Tape<FuseDisk<MemDisk>>, Fail> {
     intake_on(alloc, (fused(alloc, u64::MAX), fused(alloc, u64::MAX)))
 }
@@ -161,7 +159,6 @@ fn intake_on<D: Disk + Drop>(alloc: Global, (a, b): (D, D)) -> Result<Tape<D>, F
     }
 }
 
-// What a peer's station counts once it is opened again from its tape's disks.
 pub(crate) fn counted_on_disks(
     alloc: Global,
     peer: ClosedPeer<FuseDisk<MemDisk>>,
@@ -176,7 +173,7 @@ pub(crate) fn counted_on_disks(
     }
 }
 
-// What all workers of a post counted, which is closed.
+// What all workers of a closed post counted.
 pub(crate) fn closed_sums<D: Disk + Drop, N: Naming, R: Wait>(
     rt: &R,
     post: Post<D, N>,

@@ -27,7 +27,6 @@ use std::thread::Threads;
 // How often room is asked for, so that a test ends.
 const MOST_LOOKS: u32 = 1_000_000;
 
-// What becomes of a debt that its peer does not want.
 const NOT_WANTED: Settled = Settled::Answered(FinalCode::CheckNotWanted);
 
 const UNLIMITED: Limits = Limits {
@@ -46,11 +45,11 @@ enum Job {
     Claim,
     // Calls `flush_all` once.
     Flush,
-    // Takes room for one debt at the first peer, if it is to be had.
+    // Takes room for one debt at the first peer, if there is any.
     TakeRoom,
 }
 
-// A worker that does one thing. What it is told is a number, 0 where there is none, and what became of a debt.
+// A worker that does one thing. It keeps a number, 0 for none, and what became of a debt.
 #[derive(Drop)]
 struct Hand<N: Naming> {
     who: Who,
@@ -60,7 +59,7 @@ struct Hand<N: Naming> {
     outcome: Option<Outcome>,
     share: FeederShare<N>,
     number: u64,
-    // For how many debts it took room.
+    // How many debts it took room for.
     room: u64,
     settled: Option<Settled>,
 }
@@ -116,7 +115,7 @@ impl<D: Disk, N: Naming> Work<D, N> for Hand<N> {
     }
 }
 
-// For how many debts room is taken at the first peer, whose station others may use.
+// How many debts' room is taken at the first peer, whose station others may use.
 fn room_taken<D: Disk, N: Naming>(post: &Post<D, N>) -> u64
     requires { 0 < length post.now.names }
 {
@@ -140,7 +139,7 @@ enum Turn {
     Order,
 }
 
-// The intake. What it is told is the line's number, or that of the receipt.
+// The intake. It keeps the number of the line, or of the receipt.
 #[derive(Drop)]
 struct Taker<N: Naming> {
     turn: Turn,
@@ -184,7 +183,7 @@ enum Third<N: Naming> {
 }
 
 impl<N: Naming> Third<N> {
-    // What it has counted, what it was told, and the fault that it met.
+    // What it has counted, the number that it keeps, and the fault that it met.
     fn parts(self) -> (FeederShare<N>, u64, Option<PostFault>) {
         match self {
             Third::Flusher(flusher) => {
@@ -214,37 +213,36 @@ impl<D: Disk, N: Naming> Work<D, N> for Third<N> {
     }
 }
 
-// What the workers of a row were told, and what it came to.
+// What the workers of a row got, and what came of it.
 #[derive(Clone, Copy, Debug, PartialEq, Eq)]
 struct Told {
     first: Option<Settled>,
     second: Option<Settled>,
-    // What the two were told: the number of the debt that one claimed, or of the receipt.
+    // What the two feeders got: the number of the debt that one claimed, or of the receipt.
     numbers: (u64, u64),
-    // For how many debts the two took room.
+    // How many debts the two took room for.
     room: u64,
-    // The receipt of the third, where it is no flusher.
+    // The receipt of the third worker, if it is not a flusher.
     receipt: u64,
-    // The intake's line, or its receipt.
+    // The number of the intake's line, or of its receipt.
     intake: u64,
     gave_up: bool,
     // The mark of the intake tape.
     mark: u64,
     sums: Sums,
-    // The flusher's fault.
     fault: Option<PostFault>,
-    // How many debts each station has answered, once it is opened again from its disks.
+    // How many debts each station has answered once it is opened again from its disks.
     on_disks: (u64, u64),
 }
 
 // Two feeders, a third worker and the intake over the peers `p` and `q`, each of which is owed one debt, of line 1.
 struct Row {
     name: &'static str,
-    // How many calls the first disk of q passes.
+    // How many calls pass the first disk of q.
     calls: u64,
     feeders: (Job, Job),
     flushes: bool,
-    // The two feeders run alone.
+    // Whether the two feeders run alone.
     alone: bool,
     turn: Turn,
     first: At,
@@ -284,7 +282,7 @@ fn hire<D: Disk, N: Naming, R: Wait>(
     })
 }
 
-// Runs the workers of a row, or its two feeders alone, and returns all of them.
+// Runs the workers of a row, or only its two feeders, and returns all of them.
 fn run_all<
     D: Disk + Send,
     N: Naming + Send + Sync,
@@ -306,7 +304,6 @@ fn run_all<
     run_threads(rt, post, &signals, feeders, third, taker, pace)
 }
 
-// How many debts the stations of two peers have answered, once they are opened again.
 fn answered_on_disks(
     alloc: Global,
     peers: Vec<ClosedPeer<FuseDisk<MemDisk>>>,

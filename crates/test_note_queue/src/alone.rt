@@ -9,10 +9,10 @@ use std::test::Fail;
 
 const LINES: u64 = 5000;
 
-// What each flush counts while the front has more than the queue holds.
+// What each flush counts while the front has more notes than the queue holds.
 const COUNTS: [u64; 5] = [1024, 2048, 3072, 4096, 5000];
 
-// How many calls of its first disk the opening of a station makes whose disks are empty.
+// How many calls of its first disk the opening of a station with empty disks makes.
 const OPENING_CALLS: u64 = 5;
 
 #[test]

@@ -36,7 +36,7 @@ pub(crate) struct Relay<D: Disk> {
 }
 
 impl<D: Disk + Drop> Relay<D> {
-    /// That of a station which is opened from these disks.
+    /// A queue and the two ends of a station that is opened on these disks.
     pub(crate) fn new(alloc: Global, a: D, b: D) -> Result<Relay<D>, Fail> {
         let station = opened(alloc, a, b)?;
         let (queue, pass) = queue(alloc)?;
@@ -65,7 +65,6 @@ impl<D: Disk + Drop> Relay<D> {
         Ok(())
     }
 
-    // Owes a line, and sends it if the queue has room.
     fn owe_one<R: Wait>(
         &mut self,
         rt: &R,
@@ -77,20 +76,20 @@ impl<D: Disk + Drop> Relay<D> {
         self.send(rt)
     }
 
-    // Sends what is unsent, as far as the queue has room.
+    // Sends what was not sent, as far as the queue has room.
     fn send<R: Wait>(&mut self, rt: &R) -> Result<(), Fail> {
         let Relay { queue, sender, .. } = self;
         sender.send(rt, queue)?;
         Ok(())
     }
 
-    /// Takes to the tape what was sent.
+    /// Moves to the tape what was sent.
     pub(crate) fn pull<R: Wait>(&mut self, rt: &R) -> Result<(), TapeFault> {
         let Relay { queue, side, .. } = self;
         side.pull(rt, queue)
     }
 
-    /// Takes to the tape what was sent, flushes it, settles what is on the disks, and sends what was not sent.
+    /// Moves to the tape what was sent, flushes the tape, settles what is on the disks, and sends what was not sent.
     pub(crate) fn go_round<R: Wait>(&mut self, rt: &R) -> Result<Flushed, Fail> {
         self.pull(rt)?;
         let flushed = self.side.flush()?;
@@ -101,7 +100,7 @@ impl<D: Disk + Drop> Relay<D> {
         Ok(flushed)
     }
 
-    /// What is left of it.
+    /// What is left of the two ends.
     pub(crate) fn join<R: Wait>(self, rt: &R, alloc: Global) -> Result<Joined<D>, Fail> {
         let room = Vec::with_capacity(alloc, QUEUE_ROOM)?;
         let Relay {
@@ -114,7 +113,6 @@ impl<D: Disk + Drop> Relay<D> {
     }
 }
 
-// A station of these disks.
 fn opened<D: Disk + Drop>(alloc: Global, a: D, b: D) -> Result<Station<D>, Fail>
     ensures works { IfOk result (λ station. IsBroken station → ⊥) }
     ensures none_pends { IfOk result (λ station. pending_of station ≡ 0) }

@@ -19,7 +19,7 @@ const LINES: u64 = 5000;
 // How many lines are settled before the flusher ends.
 const SETTLED: u64 = 3000;
 
-// How often each looks for the other, so that the test ends.
+// How often each looks for the other at most, so that the test ends.
 const MOST_LOOKS: u32 = 1_000_000;
 
 #[test]
@@ -40,7 +40,8 @@ fn what_was_settled_is_on_the_tape(rt: HostRuntime) -> Result<(), Fail> {
     Ok(())
 }
 
-// One thread flushes while another owes all lines: gives both ends, and how many lines were heard to be settled.
+// One thread flushes while another owes all lines; returns both ends, and how many lines the sender heard to be
+// settled.
 fn worked<R: Threads + Wait + Sync>(
     rt: &R,
     relay: Relay<MemDisk>,
@@ -65,7 +66,6 @@ fn worked<R: Threads + Wait + Sync>(
     Ok((relay, told))
 }
 
-// The two threads.
 fn both<R: Threads + Wait + Sync>(
     rt: &R,
     queue: &NoteQueue,
@@ -96,7 +96,8 @@ fn both<R: Threads + Wait + Sync>(
     )
 }
 
-// Owes all lines, sends them, and hears what was flushed until enough is: gives the sender, and what it heard last.
+// Owes all lines, sends them, and hears what was flushed until that is enough; returns the sender, and what it heard
+// last.
 fn noted<R: Wait>(
     rt: &R,
     queue: &NoteQueue,
@@ -117,7 +118,7 @@ fn noted<R: Wait>(
     Ok((sender, told))
 }
 
-// Sends, and hears what was flushed, until enough is.
+// Sends, and hears what was flushed, until that is enough.
 fn heard_enough<R: Wait>(
     rt: &R,
     queue: &NoteQueue,

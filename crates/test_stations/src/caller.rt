@@ -30,14 +30,14 @@ pub(crate) const SMALL: Limits = Limits {
 
 pub(crate) const NOT_HELD: StationFault = StationFault::NotHeld;
 
-// How many calls of the first disk the opening of a tape makes that owes three debts there: two reads of what stands
-// first, one of all of it, and a sync, a cut, a sync, a write and a sync.
+// How many calls of the first disk the opening of a tape makes that owes three debts there: two reads of its beginning,
+// one of all of it, and a sync, a cut, a sync, a write and a sync.
 const OPENING_CALLS: u64 = 8;
 
-// And of the second disk, where it is empty: a sync.
+// And of the second disk, if it is empty: a sync.
 const OTHER_CALLS: u64 = 1;
 
-// How many calls the first disk passes, and how many the second.
+// How many calls pass the first disk, and how many the second.
 type Calls = (u64, u64);
 
 const NO_FUSE: Calls = (u64::MAX, u64::MAX);
@@ -46,50 +46,51 @@ const NO_FUSE: Calls = (u64::MAX, u64::MAX);
 pub(crate) enum Step {
     // The funnel's line of this number is owed.
     Owe(u64, Result<Owed, StationFault>),
-    // The line of this number of the source that is open is owed.
+    // The line of this number of the open source is owed.
     Import(u64, Result<Owed, StationFault>),
-    // The source that is open is closed, which is this one.
+    // The source that is open is closed: this one.
     Close(Result<u64, StationFault>),
-    // This source was closed last, and of the one behind it this number was noted.
+    // This source was closed last, and this is the greatest number noted of the source after it.
     Imported(u64, u64),
-    // So many more notes may pend.
+    // This many more notes may pend.
     Room(usize),
-    // A connection claims at this moment the debt of the number that is wanted, 0 where there is none. It holds it
-    // from then on.
+    // A connection claims a debt at this moment, of the number that is wanted, 0 for none. It holds the debt from then
+    // on.
     Claim(CxnId, u64, Result<u64, StationFault>),
     // The peer does not want the article of this number, which is held.
     NotWanted(u64),
-    // The peer wants it to be offered later.
+    // The peer wants the article to be offered later.
     WantedLater(u64),
-    // The peer takes it.
+    // The peer takes the article.
     Taken(u64),
-    // A connection ends a debt of this number: by the verdict on it, by the deferral at this moment, as lost, as
-    // given back. What is refused is handed back, and stays held.
+    // A connection settles a debt of this number: by the verdict on it, by the deferral at this moment, as lost, or as
+    // given back. If that is refused, the outcome is handed back, and the debt stays held.
     Settle(CxnId, u64, Result<(), StationFault>),
     Defer(CxnId, u64, u64, Result<(), StationFault>),
     Lose(CxnId, u64, Result<(), StationFault>),
     Back(CxnId, u64, Result<(), StationFault>),
-    // A connection has a debt of this number wait until this moment. What is refused is handed back, and stays held.
+    // A connection puts a debt of this number off until this moment. If that is refused, the debt is handed back, and
+    // stays held.
     PutOff(CxnId, u64, u64, Result<(), StationFault>),
-    // The article of this number, which is held, is not there.
+    // The article of this number, which is held, is missing.
     Gone(u64),
-    // A connection tells at this moment what is held of this number, and this becomes of the debt. What is refused is
-    // handed back, and stays held.
+    // A connection finishes at this moment what it holds of this number, and this becomes of the debt. If that is
+    // refused, the outcome is handed back, and the debt stays held.
     Finish(CxnId, u64, u64, Result<Settled, StationFault>),
-    // So many that a connection held are ready.
+    // This many debts that a connection held are ready.
     Release(CxnId, u64),
-    // These are shed, and whether more is to be.
+    // These are shed, and whether there are more to shed.
     Shed(&'static [u64], bool),
     ShedRefused(StationFault),
     Flush(Result<u64, StationFault>),
     Rotate(Result<u64, StationFault>),
     RotateDue(bool),
-    // The debt of this number is told to have the number that is wanted, 0 where there is none.
+    // The station returns the debt of this number, with the number that is wanted, 0 for none.
     Debt(u64, Result<u64, StationFault>),
     List(&'static [u64]),
-    // The list is a front of the second that has all of the first.
+    // The list is a prefix of the second that has all of the first.
     ListBetween(&'static [u64], &'static [u64]),
-    // What is counted of debts of ten octets each: taken, answered, dropped and owed.
+    // How many debts of ten octets were taken, answered and dropped, and how many are owed.
     Totals(u64, u64, u64, u64),
     Mark(u64),
 }
@@ -99,16 +100,16 @@ pub(crate) enum Step {
 pub(crate) enum Opening {
     // As they are, with these limits.
     Again(Limits),
-    // With these limits, and from the opening on the first passes so many calls. The tape owes three debts there.
+    // With these limits; from the opening on, the first disk passes this many calls. The tape owes three debts there.
     Fused(Limits, u64),
-    // With these limits, and from the opening on the second, which is empty, passes so many calls.
+    // With these limits; from the opening on, the second disk, which is empty, passes this many calls.
     OtherFused(Limits, u64),
     // After a flush, with the station's own limits.
     Flushed,
 }
 
-// A script of a station that owes the numbers from 1 to `owed`, all of which pend. The steps behind each opening
-// follow, and at the end these octets lie on the disks, where they are given.
+// A script of a station that owes the numbers from 1 to `owed`, all pending. The steps after each opening follow; at
+// the end these octets are on the disks, if any are given.
 #[derive(Clone, Copy)]
 pub(crate) struct Script {
     pub(crate) name: &'static str,
@@ -119,7 +120,7 @@ pub(crate) struct Script {
     pub(crate) tape: Option<(&'static [u8], &'static [u8])>,
 }
 
-// A station, and what connections hold of its debts: a debt that no peer answered as one that comes back.
+// A station, and what connections hold of its debts: a debt that no peer answered is held as one that is given back.
 #[derive(Drop)]
 pub(crate) struct Caller {
     alloc: Global,
@@ -128,7 +129,7 @@ pub(crate) struct Caller {
     place: Place,
 }
 
-// The caller of the station of these disks, which pass so many calls.
+// The caller of the station on these disks, which pass this many calls.
 fn open(
     alloc: Global,
     (a, b): (MemDisk, MemDisk),
@@ -156,7 +157,6 @@ fn calling(alloc: Global, station: Station<FuseDisk<MemDisk>>, place: Place) -> 
     }
 }
 
-// The caller of this script's station, before its first step.
 pub(crate) fn begin(
     alloc: Global,
     name: &'static str,
@@ -177,7 +177,7 @@ fn disks_of(caller: Caller) -> (MemDisk, MemDisk) {
     (a.into_inner(), b.into_inner())
 }
 
-// The caller of the same disks, opened again.
+// The caller with the same disks, opened again.
 fn opened_again(caller: Caller, opening: Opening) -> Result<Caller, Fail> {
     let alloc = caller.alloc;
     let place = caller.place;
@@ -198,7 +198,7 @@ fn opened_again(caller: Caller, opening: Opening) -> Result<Caller, Fail> {
     }
 }
 
-// Takes these steps, each of which has to answer as is wanted.
+// Takes these steps, each of which has to give the wanted answer.
 pub(crate) fn play<A: Abort>(rt: &A, caller: &mut Caller, steps: &[Step]) -> Result<(), Fail> {
     for step in steps {
         take(rt, caller, *step)?;
@@ -207,7 +207,6 @@ pub(crate) fn play<A: Abort>(rt: &A, caller: &mut Caller, steps: &[Step]) -> Res
     Ok(())
 }
 
-// Takes the steps of this script, before and behind each opening.
 pub(crate) fn play_script<A: Abort>(rt: &A, alloc: Global, script: Script) -> Result<(), Fail> {
     let mut caller = begin(alloc, script.name, script.owed, script.limits)?;
     play(rt, &mut caller, script.steps)?;
@@ -237,7 +236,6 @@ fn assert_tape<A: Abort>(rt: &A, caller: Caller, want: (&[u8], &[u8])) -> Result
     assert_octets(rt, alloc, place, disks_of(caller), want)
 }
 
-// These octets lie on the disks.
 pub(crate) fn assert_octets<A: Abort>(
     rt: &A,
     alloc: Global,
@@ -289,7 +287,7 @@ fn take<A: Abort>(rt: &A, caller: &mut Caller, step: Step) -> Result<(), Fail> {
     }
 }
 
-// A step that asks for a number, or for what is counted.
+// A step that asks for a number or a count.
 fn assert_told<A: Abort>(rt: &A, caller: &mut Caller, step: Step) -> Result<(), Fail> {
     match step {
         Step::Flush(want) => {
@@ -383,7 +381,7 @@ fn assert_imported<A: Abort>(
     assert_new(rt, caller, owed, want)
 }
 
-// What is wanted of a line that is owed, unless memory was refused.
+// The wanted answer to a line that is owed, unless memory was refused.
 fn assert_new<A: Abort>(
     rt: &A,
     caller: &Caller,
@@ -397,7 +395,7 @@ fn assert_new<A: Abort>(
     Ok(())
 }
 
-// What is wanted of a call that takes memory, unless it was refused.
+// The wanted answer to a call that takes memory, unless memory was refused.
 fn assert_answer<A: Abort>(
     rt: &A,
     caller: &Caller,
@@ -415,12 +413,12 @@ fn hold(caller: &mut Caller, held: Outcome) -> Result<(), Fail> {
     Ok(caller.held.push(held)?)
 }
 
-// Each number is of an article of one token and one message-id.
+// Each debt is of the same token and message-id.
 fn is_of_line(debt: &Debt) -> bool {
     debt.token().bytes() == b"a/1".as_slice() && debt.id().bytes() == b"<x@y>".as_slice()
 }
 
-// The key of a debt as rows have it, 0 where there is none.
+// The number of a debt's key, as rows write it, 0 for none.
 fn told_number<A: Abort>(rt: &A, place: Place, debt: &Option<Debt>) -> u64 {
     match debt {
         Some(debt) => {
@@ -431,7 +429,7 @@ fn told_number<A: Abort>(rt: &A, place: Place, debt: &Option<Debt>) -> u64 {
     }
 }
 
-// Holds what was claimed, and answers its key as rows have it.
+// Holds what was claimed, and returns the number of its key, as rows write it.
 fn keep<A: Abort>(rt: &A, caller: &mut Caller, debt: Option<Debt>) -> Result<u64, Fail> {
     let number = told_number(rt, caller.place, &debt);
     if let Some(debt) = debt {
@@ -454,7 +452,6 @@ fn assert_claimed<A: Abort>(
     assert_answer(rt, caller, claimed, want)
 }
 
-// The first that is held of this number, which is held no longer.
 fn given(caller: &mut Caller, number: u64) -> Result<Outcome, Fail> {
     let at = caller
         .held
@@ -480,7 +477,6 @@ fn offered(alloc: Global, debt: Debt, line: &[u8]) -> Result<Conn, Fail> {
     Ok(conn)
 }
 
-// The connection sends the article of this number, which the peer takes.
 fn send<A: Abort>(
     rt: &A,
     alloc: Global,
@@ -494,7 +490,7 @@ fn send<A: Abort>(
     input(conn, b"239 <x@y>\r\n")
 }
 
-// What a connection tells of this debt after this line of the peer's, and after the article where the peer wants it.
+// What a connection makes of this debt after this line of the peer's, and after the article if the peer wants it.
 fn answered<A: Abort>(
     rt: &A,
     alloc: Global,
@@ -509,7 +505,7 @@ fn answered<A: Abort>(
     Ok(conn.outcome().ok_or("an outcome")?)
 }
 
-// The peer answers the debt of this number by this line, and this is told of it.
+// The peer answers the debt of this number with this line, and this becomes of it.
 fn answer<A: Abort>(
     rt: &A,
     caller: &mut Caller,
@@ -523,7 +519,7 @@ fn answer<A: Abort>(
     hold(caller, held)
 }
 
-// The end of a debt of this number, or the refusal with what was handed back.
+// The debt of this number was settled; or that was refused, and the outcome was handed back.
 fn assert_ended<A: Abort>(
     rt: &A,
     caller: &mut Caller,
@@ -636,7 +632,6 @@ fn put_off<A: Abort>(
     assert_ended(rt, caller, number, refused, want)
 }
 
-// The article of this number is not there.
 fn lack(caller: &mut Caller, number: u64) -> Result<(), Fail> {
     let debt = debt_given(caller, number)?;
     hold(caller, Outcome::Lost(debt, Cause::Missing))

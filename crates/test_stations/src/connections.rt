@@ -226,7 +226,7 @@ const CLOSED: &[Row] = &[
     },
 ];
 
-// With its end it is longer than a reply may be.
+// With its line end it is longer than a reply may be.
 const LONG: [u8; 2048] = [b'2'; 2048];
 
 const MALICIOUS: &[Row] = &[
@@ -296,8 +296,8 @@ const SWITCHED: Row = Row {
     closed: None,
 };
 
-// Articles with the numbers from the first to before the other, one after the other: whether a CHECK goes out for
-// each, the reply to each TAKETHIS, and whether checks are on behind it.
+// Articles with the numbers from the first up to the other, one after another: whether a CHECK goes out for each, the
+// reply to each TAKETHIS, and whether checks are on after it.
 #[derive(Clone, Copy)]
 struct Answers {
     first: u64,
@@ -308,7 +308,7 @@ struct Answers {
     checks: bool,
 }
 
-// Of the last twenty 95 of 100 are taken at the number 20, 90 at 41, and 85 at 42.
+// The share of the last twenty that the peer took is 95 of 100 at number 20, 90 at 41, and 85 at 42.
 const ANSWERS: [Answers; 5] = [
     Answers {
         first: 1,
@@ -352,7 +352,7 @@ const ANSWERS: [Answers; 5] = [
     },
 ];
 
-// One article all the way.
+// One article, from its offer to its outcome.
 fn play_article<A: Abort>(
     rt: &A,
     exchange: &mut Exchange,
@@ -393,7 +393,7 @@ fn play_switched<A: Abort>(rt: &A, alloc: Global, wire: Wire) -> Result<(), Fail
     Ok(())
 }
 
-// Checks are off once the first two have been played: the articles are wanted at once, and each TAKETHIS is awaited.
+// Checks are off once the first two rows have been played: articles are wanted at once, and each TAKETHIS is awaited.
 const UNCHECKED: &[Step] = &[
     Step::Offer(21, b"<x@y>"),
     Step::Offer(22, b"<z@y>"),

@@ -1,5 +1,5 @@
-// Steps of an exchange: what a feeder or its peer does at one connection, or what the connection is asked, with what
-// it is to tell.
+// Steps of an exchange: what a feeder or its peer does at one connection, or what the connection is asked, with the
+// answer that is wanted.
 use crate::shared::{
     Place, article, assert_same, connection, funnel_key, hand, in_rows, input, key_in_rows, names,
     offer, told,
@@ -13,14 +13,14 @@ use std::test::Fail;
 
 const NUMBER: CxnId = CxnId(7);
 
-// How replies come in: what ends each line, and in pieces of how many octets.
+// How replies come in: how each line ends, and in pieces of how many octets.
 #[derive(Clone, Copy)]
 pub(crate) struct Wire {
     end: &'static [u8],
     piece: usize,
 }
 
-// Whole and octet by octet, ended by CR LF and by LF alone.
+// Whole or octet by octet, with lines ended by CR LF or by LF alone.
 pub(crate) const WIRES: [Wire; 4] = [
     Wire {
         end: b"\r\n",
@@ -42,9 +42,9 @@ pub(crate) const WIRES: [Wire; 4] = [
 
 #[derive(Clone, Copy)]
 pub(crate) enum Step {
-    // A debt of this number and message-id is offered to a connection that is ready, and taken.
+    // A ready connection takes a debt of this number and message-id.
     Offer(u64, &'static [u8]),
-    // A debt of this number is refused, and handed back.
+    // A debt of this number is refused, for this fault, and handed back.
     NotOffered(u64, OfferFault),
     // A reply without its line end.
     Line(&'static [u8]),
@@ -56,28 +56,28 @@ pub(crate) enum Step {
     Tick(u64),
     Broken,
     Quit,
-    // So many octets of the output were sent.
+    // This many octets of the output were sent.
     Sent(usize),
-    // All that is to be sent, which counts as sent from now on; and all that is, which stays.
+    // All that is to be sent: it counts as sent from now on, or stays.
     Output(&'static [u8]),
     Unsent(&'static [u8]),
-    // The next outcome: a number, and a code or what is told in its place.
+    // The next outcome: a number, and a code or what stands for one.
     Outcome(u64, u16),
     Ready(Ready),
     Need(Option<u64>),
     Checks(bool),
     Mode(Option<Mode>),
-    // The number of the debt whose article came to be wanted first.
+    // The number of the debt whose article is wanted first.
     Wanted(Option<u64>),
     // Whether the peer answered a command about a debt.
     Answered(bool),
-    // The number of the debt whose command was the first without an answer when it closed.
+    // The number of the debt whose command was the first unanswered one when the connection closed.
     Unanswered(Option<u64>),
     // The code and the text of the reply that closed it.
     Refused(Option<(u16, &'static [u8])>),
 }
 
-// A mode stands: streaming mode, and a CHECK of the debt 1 is out; streaming mode; IHAVE mode.
+// The connection is in a mode: streaming, with a CHECK of debt 1 sent; streaming; IHAVE.
 pub(crate) const CHECKED: &[Step] = &[
     Step::Line(b"200"),
     Step::Line(b"203"),
@@ -93,8 +93,8 @@ pub(crate) const STREAMING: &[Step] = &[
 
 pub(crate) const PLAIN: &[Step] = &[Step::Line(b"200")];
 
-// A whole exchange: how it begins, and goes on. At its end all output was asked for, and each outcome, and the
-// connection is closed for this reason or open.
+// A whole exchange: how it begins, and goes on. At its end all output and each outcome was asked for, and the
+// connection is closed for this reason, or open.
 #[derive(Clone, Copy)]
 pub(crate) struct Row {
     pub(crate) name: &'static str,
@@ -112,7 +112,6 @@ pub(crate) struct Exchange {
     place: Place,
 }
 
-// The exchange of this row once it has begun.
 pub(crate) fn begin<A: Abort>(
     rt: &A,
     alloc: Global,
@@ -129,7 +128,7 @@ pub(crate) fn begin<A: Abort>(
     Ok(exchange)
 }
 
-// Takes these steps, each of which has to tell what is wanted.
+// Takes these steps, each of which has to give the wanted answer.
 pub(crate) fn play<A: Abort>(rt: &A, exchange: &mut Exchange, steps: &[Step]) -> Result<(), Fail> {
     for step in steps {
         take(rt, exchange, *step)?;
@@ -138,7 +137,6 @@ pub(crate) fn play<A: Abort>(rt: &A, exchange: &mut Exchange, steps: &[Step]) ->
     Ok(())
 }
 
-// Takes the steps of this row, with replies that come in so.
 pub(crate) fn play_row<A: Abort>(rt: &A, alloc: Global, row: Row, wire: Wire) -> Result<(), Fail> {
     let mut exchange = begin(rt, alloc, row, wire)?;
     play(rt, &mut exchange, row.steps)?;
@@ -146,7 +144,7 @@ pub(crate) fn play_row<A: Abort>(rt: &A, alloc: Global, row: Row, wire: Wire) ->
     Ok(())
 }
 
-// Takes the steps of each row in each way in which replies come in.
+// Takes the steps of each row, for each way in which replies come in.
 pub(crate) fn play_rows<A: Abort>(rt: &A, alloc: Global, rows: &[Row]) -> Result<(), Fail> {
     for row in rows {
         for wire in WIRES {
@@ -176,7 +174,6 @@ fn take<A: Abort>(rt: &A, exchange: &mut Exchange, step: Step) -> Result<(), Fai
     Ok(())
 }
 
-// A step that asks what the connection tells.
 fn assert_told<A: Abort>(rt: &A, exchange: &mut Exchange, step: Step) {
     match step {
         Step::Output(want) => {
@@ -193,7 +190,6 @@ fn assert_told<A: Abort>(rt: &A, exchange: &mut Exchange, step: Step) {
     }
 }
 
-// A step that asks what the connection knows of its debts and of its peer.
 fn assert_known<A: Abort>(rt: &A, exchange: &Exchange, step: Step) {
     let conn = &exchange.conn;
     match step {
@@ -245,7 +241,6 @@ fn assert_not_offered<A: Abort>(
     Ok(())
 }
 
-// Feeds a reply in pieces.
 fn reply(exchange: &mut Exchange, line: &[u8]) -> Result<(), Fail> {
     let mut octets = Vec::from_slice(exchange.alloc, line)?;
     octets.extend_from_slice(exchange.wire.end)?;
@@ -299,7 +294,7 @@ fn assert_outcome<A: Abort>(rt: &A, exchange: &mut Exchange, want: Option<(u64, 
     assert_same(rt, exchange.place, &outcome, &want);
 }
 
-// A key as rows have it.
+// The number of a key, as rows write it.
 fn told_key(key: Option<Key>) -> Option<u64> {
     match key {
         Some(key) => Some(in_rows(key)),
@@ -331,7 +326,7 @@ fn assert_refused<A: Abort>(rt: &A, exchange: &Exchange, want: Option<(u16, &'st
     assert_same(rt, exchange.place, &refused, &want);
 }
 
-// Nothing is left to be told, and the connection is closed for this reason or open.
+// Nothing more is to be asked for, and the connection is closed for this reason, or open.
 pub(crate) fn end<A: Abort>(rt: &A, exchange: &mut Exchange, closed: Option<Reason>) {
     assert_unsent(rt, exchange, b"");
     assert_outcome(rt, exchange, None);

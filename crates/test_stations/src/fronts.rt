@@ -1,4 +1,4 @@
-// Fronts of stations that were split. Their notes are copied to their tapes by hand.
+// Fronts of stations that were split. The test copies their notes to their tapes itself.
 use crate::caller::{NOT_HELD, ONE, OTHER, SMALL, UNLIMITED};
 use crate::shared::{Place, assert_same, funnel_key, in_rows, key_in_rows, names};
 use conn_core::CxnId;
@@ -16,33 +16,32 @@ const FULL: StationFault = StationFault::Tape(TapeFault::PendingFull);
 enum Step {
     // The funnel's line of this number is owed.
     Owe(u64, Result<Owed, StationFault>),
-    // So many lines behind this number are owed.
+    // This many lines after this number are owed.
     OweMany(u64, u64),
-    // The line of this number of the source that is open is owed, and that source is closed.
+    // The line of this number of the open source is owed, and that source is closed.
     Import(u64, Result<Owed, StationFault>),
     Close(Result<u32, StationFault>),
-    // A connection claims a key at this moment, 0 where there is none.
+    // A connection claims a key at this moment; 0 stands for none.
     Claim(CxnId, u64, Result<u64, StationFault>),
     Unclaim(CxnId, u64, Result<(), StationFault>),
     // A connection that claimed the key drops its debt.
     Lose(CxnId, u64, Result<(), StationFault>),
-    // So many that a connection held are ready.
+    // This many debts that a connection held are ready.
     Release(CxnId, u64),
-    // So many are shed, and whether more is to be.
+    // This many debts are shed, and whether there are more to shed.
     Shed(usize, bool),
     // Whether the front has the texts of this key.
     Texts(u64, bool),
-    // So many notes that were not sent are copied to the tape, which takes them.
+    // This many notes that were not sent are copied to the tape, which takes them.
     Send(u64),
-    // The tape is flushed, which counts so many notes, and the front is told: whether it takes the answer.
+    // The tape is flushed, which counts this many notes, and the front is given the answer: whether it takes it.
     Flush(u64, bool),
-    // The answer of the flush before is told once more.
+    // The front is given the answer of the last flush again.
     Again(bool),
-    // The front is told that the tape broke.
     Broke,
-    // So many more notes may pend, and so many are noted.
+    // Room for this many more pending notes, and how many notes there are.
     Room(usize, u64),
-    // Taken, answered, dropped and owed, of debts of ten octets.
+    // How many debts of ten octets were taken, answered and dropped, and how many are owed.
     Totals(u64, u64, u64, u64),
     Mark(u64),
     AllLater(bool),
@@ -51,7 +50,7 @@ enum Step {
 #[derive(Clone, Copy)]
 struct Script {
     name: &'static str,
-    // So many lines are owed and flushed before the split.
+    // How many lines are owed and flushed before the split.
     owed: u64,
     limits: Limits,
     steps: &'static [Step],
@@ -80,7 +79,6 @@ fn owe_at(station: &mut Station<MemDisk>, alloc: Global, number: u64) -> Result<
     Ok(())
 }
 
-// A station is flushed first, so that no note of it pends.
 fn split(station: Station<MemDisk>, place: usize) -> Result<(Front, Tape<MemDisk>), Fail> {
     let mut station = station;
     station.flush()?;
@@ -136,7 +134,7 @@ fn lose(
     }
 }
 
-// Whether the front has the texts of this key; then they are those that were noted.
+// Whether the front has the texts of this key; if it has, they are those that were noted.
 fn has_texts<A: Abort>(rt: &A, split: &FrontAndTape, key: Key) -> Result<bool, Fail> {
     match split.front.unsettled(key)? {
         Some(debt) => {
@@ -149,7 +147,6 @@ fn has_texts<A: Abort>(rt: &A, split: &FrontAndTape, key: Key) -> Result<bool, F
     }
 }
 
-// Copies the first note that was not sent to the tape, if there is one.
 fn send_one(split: &mut FrontAndTape) -> Result<bool, Fail> {
     let Some(note) = split.front.next_unsent() else {
         return Ok(false);
@@ -248,7 +245,6 @@ fn take<A: Abort>(rt: &A, split: &mut FrontAndTape, step: Step) -> Result<(), Fa
     Ok(())
 }
 
-// A step about what connections hold, or that asks.
 fn hold<A: Abort>(rt: &A, split: &mut FrontAndTape, step: Step) -> Result<(), Fail> {
     match step {
         Step::Claim(connection, now, want) => {
@@ -304,7 +300,7 @@ const SCRIPTS: &[Script] = &[
         owed: 1,
         limits: UNLIMITED,
         steps: &[
-            // What was owed at the split is on the tape alone.
+            // What was owed at the split is only on the tape.
             Step::Texts(1, false),
             Step::Owe(1, Ok(Owed::Already)),
             Step::Owe(2, Ok(Owed::New)),
@@ -316,7 +312,7 @@ const SCRIPTS: &[Script] = &[
             Step::Send(1),
             Step::Flush(2, true),
             Step::Room(65535, 3),
-            // It lies on.
+            // It still has the texts.
             Step::Texts(2, true),
             Step::Again(true),
             Step::Send(1),
@@ -419,7 +415,7 @@ fn fronts_are_played(rt: HostRuntime) -> Result<(), Fail> {
     play_all(&rt, rt.alloc(), SCRIPTS)
 }
 
-// 8,193 notes are settled: the texts of the first are let go.
+// 8,193 notes are settled: the front lets go of the texts of the first.
 const LYING: Script = Script {
     name: "settled notes lie on",
     owed: 0,
@@ -473,7 +469,7 @@ fn no_more_than_so_many_notes_pend(rt: HostRuntime) -> Result<(), Fail> {
     Ok(())
 }
 
-// What a flush of another tape answered settles nothing.
+// The answer of a flush of another tape settles nothing.
 fn settle_by_other<A: Abort>(rt: &A, alloc: Global) -> Result<(), Fail> {
     let place = Place::first("a flush of another tape");
     let (mut front, _tape) = split(open(alloc, UNLIMITED)?, 1)?;

@@ -1,10 +1,10 @@
-//! The tests of connections and of stations, as data: steps, each with what it is to tell, and a runner for each of the
-//! two.
+//! The tests of connections and of stations, as data: steps, each with the answer that is wanted, and one runner for
+//! each of the two.
 //!
-//! May touch nothing but memory; it calls what `conn_core` and `peer_queue` make public, and nothing stands on it.
-//! It is a crate of its own so that those two are not proved a second time with their tests. A row more costs next to
-//! no proof, a function more does: so each public call is made in one small function here, which says nothing in a
-//! clause.
+//! May touch nothing but memory. It calls what `conn_core` and `peer_queue` make public, and nothing stands on it. It
+//! is a crate of its own so that those two are not proved a second time with their tests. One more row costs next to no
+//! proof, one more function does: so each public call is made in one small function here, whose contract promises
+//! nothing.
 #![tactic(auto)]
 
 #[cfg(test)]

@@ -1,4 +1,4 @@
-// Scripts of stations that are opened again, rotated, or stopped in a flush. A debt of a script has ten octets.
+// Scripts of stations that are opened again, rotated, or stopped in a flush. Each debt has ten octets.
 use crate::caller::{
     NOT_HELD, ONE, OTHER, Opening, SMALL, Script, Step, UNLIMITED, assert_octets, play_scripts,
 };
@@ -16,7 +16,7 @@ const ANSWERED: [u8; 41] = [
     0x78, 0x40, 0x79, 0x3e, 2, 0, 0, 0, 0, 0, 0, 0, 1, 0, 0xef, 0,
 ];
 
-// What a first rotation makes of the Owes 1 and 2 of that token and id.
+// What a first rotation writes of the Owes 1 and 2 of that token and id.
 const ROTATED: [u8; 103] = [
     0xa5, 0, 0, 0, 0x31, 4, 0, 0, 0, 0, 0, 0, 0, 1, 0, 0, 0, 0, 0, 0, 0, 2, 0, 0, 0, 0, 0, 0, 0, 2,
     0, 0, 0, 0, 0, 0, 0, 0, 0, 0, 0, 0, 0, 0, 0, 0, 0, 0, 0, 0, 0, 0, 0, 2, 0xa5, 0, 0, 0, 0x13, 1,
@@ -34,8 +34,8 @@ const MIXED: Limits = Limits {
     drop_deferred: true,
 };
 
-// Of the mixed run of ten debts two are answered, one is lost, one is deferred and dropped, three are shed, and one
-// stays held.
+// A mixed run of ten debts: two are answered, one is lost, one is deferred and dropped, three are shed, and one stays
+// held.
 const REOPENING: &[Script] = &[
     Script {
         name: "an article is taken",
@@ -99,7 +99,7 @@ const REOPENING: &[Script] = &[
         limits: UNLIMITED,
         steps: &[Step::Flush(Ok(3))],
         opened: &[(
-            // Each claim reads by two calls.
+            // Each claim reads with two calls.
             Opening::Fused(SMALL, 6),
             &[
                 Step::Claim(ONE, 0, Ok(1)),
@@ -133,7 +133,7 @@ const REOPENING: &[Script] = &[
         steps: &[Step::Flush(Ok(3))],
         opened: &[
             (
-                // The claim reads by two calls.
+                // The claim reads with two calls.
                 Opening::Fused(UNLIMITED, 2),
                 &[
                     Step::Owe(4, Ok(Owed::New)),
@@ -184,7 +184,7 @@ const CANNOT_READ: &[Step] = &[
     Step::Totals(3, 0, 0, 3),
     Step::List(&[1, 2, 3]),
     Step::Release(ONE, 0),
-    // It works on: a note that pends is not read from the disk.
+    // The station goes on working: a pending note is not read from the disk.
     Step::Owe(4, Ok(Owed::New)),
     Step::Debt(4, Ok(4)),
     Step::Claim(ONE, 0, Err(DISK)),
@@ -199,8 +199,7 @@ const READS_AGAIN: &[Step] = &[
     Step::Debt(3, Ok(3)),
 ];
 
-// A debt is read from the first disk by two calls: where one fails the debt is owed in its place, and the station
-// works.
+// Two calls of the first disk read a debt. If one fails, the debt is still owed in its place, and the station works.
 const READING: &[Script] = &[
     Script {
         name: "a claim whose first call fails",
@@ -294,8 +293,8 @@ const FAILS: &[Step] = &[
 
 const KEEPS: &[Step] = &[Step::ListBetween(&[1, 2, 3], &[1, 2, 3, 4, 5])];
 
-// A flush of the numbers 4 and 5 that fails after so many calls of the first disk keeps the three before them, and
-// nothing else that was not owed: one write, a sync, a write for the gate of their batch, and a sync.
+// If a flush of the numbers 4 and 5 fails after this many calls of the first disk, it keeps the three debts before
+// them, and nothing that was not owed. It makes one write, a sync, a write of the gate of their batch, and a sync.
 const CUT: &[Script] = &[
     Script {
         name: "a flush that fails after no call",
@@ -377,7 +376,7 @@ const FAILS_TO_ROTATE: &[Step] = &[
 
 const KEEPS_FOUR: &[Step] = &[Step::ListBetween(&[1, 2, 3], &[1, 2, 3, 4])];
 
-// A rotation makes eight calls of the second disk, and keeps each debt's place: whose it is, and until when it waits.
+// A rotation makes eight calls of the second disk, and keeps each debt's place: who holds it, and until when it waits.
 const ROTATING: &[Script] = &[
     Script {
         name: "what is held stays held",
@@ -502,7 +501,7 @@ fn write(disk: &mut MemDisk, octets: &[u8]) -> Result<(), Fail> {
     Ok(disk.write_at(0, octets)?)
 }
 
-// The refusal to open two disks.
+// Why two disks are not opened, with the disks.
 fn not_opened(alloc: Global, a: MemDisk, b: MemDisk) -> Result<RefusedTape<MemDisk>, Fail> {
     match Station::open(alloc, a, b, UNLIMITED) {
         Ok(_) => Err(Fail::from("opened")),
@@ -510,7 +509,7 @@ fn not_opened(alloc: Global, a: MemDisk, b: MemDisk) -> Result<RefusedTape<MemDi
     }
 }
 
-// Two disks of these octets are handed back as they were, for damage at this place.
+// Two disks with these octets are handed back as they were, as damaged at this place.
 fn assert_damaged<A: Abort>(
     rt: &A,
     alloc: Global,

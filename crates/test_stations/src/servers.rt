@@ -1,5 +1,5 @@
-// Exchanges with servers that are in use: what innd 2.7.1, INN 1.7.2 and INN's tinyleaf answer, and what else a server
-// may, each with what a connection makes of it (docs/PROTOCOL.md). The words behind the codes are ours.
+// Exchanges with real servers: what innd 2.7.1, INN 1.7.2 and INN's tinyleaf reply, and what else a server may reply,
+// each with what a connection makes of it (docs/PROTOCOL.md). The words after the codes are ours.
 use crate::exchange::{Row, Step, play_rows};
 use crate::shared::{BACK, LATER};
 use conn_core::{OfferFault, Ready, Reason};
@@ -83,7 +83,7 @@ const INND: &[Row] = &[
         ],
         closed: None,
     },
-    // Of which CHECK it is the answer can't be told: none is taken as answered.
+    // The reply names no CHECK, so that no CHECK counts as answered.
     Row {
         name: "innd answers 438 without an id",
         streaming: true,
@@ -206,7 +206,7 @@ const OLDER_AND_SMALLER: &[Row] = &[
         ],
         closed: None,
     },
-    // Its TAKETHIS has its answer already, so that this one answers nothing.
+    // The TAKETHIS has its reply already, so that this one answers nothing.
     Row {
         name: "INN 1.7.2 answers 239 once more",
         streaming: true,
@@ -250,7 +250,7 @@ const OLDER_AND_SMALLER: &[Row] = &[
         ],
         closed: Some(Reason::Reader(ReplyFault::NoCode)),
     },
-    // 435 is no answer to a block: the debt is not final, and comes back.
+    // 435 does not answer a block: the debt is not final, and is ready again.
     Row {
         name: "tinyleaf answers 435 to a block",
         streaming: false,

@@ -1,4 +1,4 @@
-// What the steps of connections and those of stations share: debts, a connection, and the one comparison.
+// What the steps of connections and those of stations share: debts, a connection, and one comparison.
 use article_store::Found;
 use bytes::Bytes;
 use conn_core::{Conn, CxnId, Options, Outcome};
@@ -9,7 +9,7 @@ use std::fmt::Debug;
 use std::process::Abort;
 use std::test::Fail;
 
-// What is told of a debt that no final reply ended, in place of the reply's code.
+// What stands for the code of a debt that no final reply ended.
 pub(crate) const LATER: u16 = 1;
 
 pub(crate) const MISSING: u16 = 2;
@@ -27,11 +27,11 @@ pub(crate) const STREAMING: Options = Options {
     response_timeout: 300,
 };
 
-// In rows a key is one number, in which the source counts this: the number of a funnel's line is its own key. No number
-// of another source is as great.
+// Rows write a key as one number, in which each source counts this much; so the number of a funnel's line is its own
+// key. No number of a line of another source is as great.
 pub(crate) const SOURCE: u64 = 4_294_967_296;
 
-// Where a comparison stands: the row, and the place of the step in it.
+// Where in the rows a comparison is: the row, and the step in it.
 #[derive(Clone, Copy)]
 pub(crate) struct Place {
     pub(crate) row: &'static str,
@@ -39,12 +39,10 @@ pub(crate) struct Place {
 }
 
 impl Place {
-    // The first step of this row.
     pub(crate) fn first(row: &'static str) -> Self {
         Place { row, step: 0 }
     }
 
-    // The step behind this one.
     pub(crate) fn next(self) -> Self {
         Place {
             step: self.step.saturating_add(1),
@@ -53,7 +51,6 @@ impl Place {
     }
 }
 
-// What is told is what is wanted.
 pub(crate) fn assert_same<A: Abort, T: PartialEq + Debug>(
     rt: &A,
     place: Place,
@@ -63,7 +60,7 @@ pub(crate) fn assert_same<A: Abort, T: PartialEq + Debug>(
     assert_eq!(rt; *told, *want, "{}, step {}", place.row, place.step);
 }
 
-// A token of three octets and a message-id: of five octets it makes a debt of ten.
+// A token of three octets and this message-id: with an id of five octets, the debt has ten.
 pub(crate) fn names(alloc: Global, id: &[u8]) -> Result<(Token, MsgId), Fail> {
     Ok((
         Token::read(alloc, b"a/1")?.ok_or("a token")?,
@@ -106,14 +103,14 @@ pub(crate) fn funnel_key(number: u64) -> Key {
     Key::new(0, number)
 }
 
-// A key as rows have it.
+// The number of a key, as rows write it.
 pub(crate) fn in_rows(key: Key) -> u64 {
     u64::from(key.source())
         .saturating_mul(SOURCE)
         .saturating_add(key.number())
 }
 
-// The key of a debt, as rows have it.
+// The number of a debt's key, as rows write it.
 pub(crate) fn key_in_rows(debt: &Debt) -> u64 {
     in_rows(debt.key())
 }
@@ -126,7 +123,7 @@ pub(crate) fn all_in_rows(alloc: Global, keys: &[Key]) -> Result<Vec<u64>, Fail>
     Ok(told)
 }
 
-// The key of a debt as rows have it, and the code of the reply that ended it or what is told in its place.
+// The number of the debt's key, as rows write it, and the code of the reply that ended it, or what stands for one.
 pub(crate) fn told(outcome: &Outcome) -> (u64, u16) {
     match outcome {
         Outcome::Final(verdict) => (key_in_rows(verdict.debt()), verdict.code().number()),

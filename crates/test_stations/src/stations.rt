@@ -1,4 +1,4 @@
-// Scripts of stations. A debt of a script has ten octets.
+// Scripts of stations. Each debt has ten octets.
 use crate::caller::{
     NOT_HELD, ONE, OTHER, Opening, SMALL, Script, Step, UNLIMITED, begin, play, play_script,
     play_scripts,
@@ -15,12 +15,11 @@ use std::test::Fail;
 // How many notes may pend.
 const MOST_PENDING: u64 = 65536;
 
-// There is room for two more.
+// Room for two more notes.
 const NEARLY_FULL: u64 = 65534;
 
 const FULL: StationFault = StationFault::Tape(TapeFault::PendingFull);
 
-// What becomes of a debt that the peer does not want.
 const NOT_WANTED: Settled = Settled::Answered(FinalCode::CheckNotWanted);
 
 const DROPPING: Limits = Limits {
@@ -29,7 +28,7 @@ const DROPPING: Limits = Limits {
     drop_deferred: true,
 };
 
-// Where the station is nearly full, five debts are above the limit.
+// When the station is nearly full, five debts exceed the limit.
 const JUST_ABOVE: Limits = Limits {
     backlog_limit: 10 * NEARLY_FULL - 50,
     backlog_high: 10 * NEARLY_FULL - 40,
@@ -630,7 +629,7 @@ const PENDING_FULL: Script = Script {
     tape: None,
 };
 
-// So many debts, of which the first is held, a limit and a high water: which are shed.
+// This many debts, the first of which is held; a limit and a high water; and what is shed.
 const SHED: [(u64, u64, u64, &[u64]); 10] = [
     (11, 100, 110, &[]),
     (11, 100, 109, &[2]),
@@ -697,7 +696,6 @@ fn no_more_notes_pend_than_may(rt: HostRuntime) -> Result<(), Fail> {
     play_script(&rt, rt.alloc(), PENDING_FULL)
 }
 
-// Of so many debts, the first of which is held, these are shed.
 fn play_shed<A: Abort>(
     rt: &A,
     alloc: Global,

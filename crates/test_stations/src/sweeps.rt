@@ -1,4 +1,4 @@
-// Stations over two disks of which one call fails, each call in turn.
+// Stations over two disks of which one call fails, for each call in turn.
 use crate::caller::{ONE, UNLIMITED};
 use crate::shared::{all_in_rows, funnel_key, names};
 use disk_model::{Disk, FlakyDisk, MemDisk};
@@ -9,10 +9,11 @@ use std::alloc::Global;
 use std::process::Abort;
 use std::test::Fail;
 
-// No sweep meets as many calls.
+// More calls than any sweep meets.
 const MOST_CALLS: u64 = 1_000;
 
-// What is owed after each front of the notes: of one debt, of another, of the end of the first, and of a third debt.
+// What is owed after each prefix of the notes: those of one debt, of another, of the end of the first, and of a third
+// debt.
 const FRONTS: [&[u64]; 5] = [&[], &[1], &[1, 2], &[2], &[2, 3]];
 
 type Flaky = Station<FlakyDisk<MemDisk>>;
@@ -20,10 +21,9 @@ type Flaky = Station<FlakyDisk<MemDisk>>;
 // How many notes are acknowledged, and how many were made.
 type Counts = (u64, u64);
 
-// How many calls of the first disk come before the one that fails, and how many of the second.
+// How many calls of the first disk, and how many of the second, come before the one that fails.
 type Calls = (u64, u64);
 
-// The station of these disks, or why it is refused and the disks.
 fn opened<D: Disk + Drop>(
     alloc: Global,
     (a, b): (D, D),
@@ -37,8 +37,7 @@ fn opened<D: Disk + Drop>(
     }
 }
 
-// The station of these disks, of which a call of the opening may fail: then they are opened a second
-// time.
+// The station on these disks. A call of the opening may fail: then they are opened a second time.
 fn opened_at_last<A: Abort>(
     rt: &A,
     alloc: Global,
@@ -84,7 +83,7 @@ fn is_told(station: &mut Flaky, number: u64) -> Result<bool, StationFault> {
     Ok(station.debt(funnel_key(number))?.is_some())
 }
 
-// What is told of a number where each call but one succeeds: a reading that failed changed nothing, and the next
+// Whether the station has the debt, if at most one call fails: a reading that failed changed nothing, and the next
 // succeeds.
 fn is_told_at_last(station: &mut Flaky, number: u64) -> Result<bool, StationFault> {
     match is_told(station, number) {
@@ -107,13 +106,11 @@ fn lose(station: &mut Flaky, debt: Debt) -> Result<(), Fail> {
     }
 }
 
-// The least debt is claimed, and lost.
 fn end_first(station: &mut Flaky) -> Result<(), Fail> {
     let debt = claim_at_last(station)?.ok_or("a debt")?;
     lose(station, debt)
 }
 
-// No call changes a broken station.
 fn assert_broken<A: Abort>(rt: &A, station: &mut Flaky) -> Result<(), Fail> {
     for _ in 0..2 {
         assert_eq!(rt; flush(station)?, Err(StationFault::Broken));
@@ -124,7 +121,7 @@ fn assert_broken<A: Abort>(rt: &A, station: &mut Flaky) -> Result<(), Fail> {
     Ok(())
 }
 
-// How many notes are acknowledged after a flush, of so many before: a disk alone fails one.
+// How many notes are acknowledged after a flush, if this many were before. Only the disk can make it fail.
 fn flushed<A: Abort>(rt: &A, station: &mut Flaky, acknowledged: u64) -> Result<u64, Fail> {
     match flush(station)? {
         Ok(count) => Ok(count),
@@ -136,7 +133,7 @@ fn flushed<A: Abort>(rt: &A, station: &mut Flaky, acknowledged: u64) -> Result<u
     }
 }
 
-// The same after the first rotation, which acknowledges one note more.
+// The same for the first rotation, which acknowledges one more note.
 fn rotated<A: Abort>(rt: &A, station: &mut Flaky, acknowledged: u64) -> Result<u64, Fail> {
     match rotate(station)? {
         Ok(generation) => {
@@ -176,8 +173,7 @@ fn listed(alloc: Global, disks: (MemDisk, MemDisk)) -> Result<Vec<u64>, Fail> {
     }
 }
 
-// What a station of these disks owes is what it owed after so many notes at least, and so many at
-// most.
+// A station on these disks owes what was owed after a prefix of the notes, of at least and at most this many.
 fn assert_front<A: Abort>(
     rt: &A,
     alloc: Global,
@@ -192,7 +188,7 @@ fn assert_front<A: Abort>(
     Ok(())
 }
 
-// Whether the call behind so many, which fails, comes.
+// Whether the call that fails, after this many, comes.
 fn meets_fault<A: Abort>(rt: &A, alloc: Global, (first, second): Calls) -> Result<bool, Fail> {
     let a = FlakyDisk::new(MemDisk::new(alloc), first);
     let b = FlakyDisk::new(MemDisk::new(alloc), second);
@@ -204,7 +200,7 @@ fn meets_fault<A: Abort>(rt: &A, alloc: Global, (first, second): Calls) -> Resul
     Ok(met)
 }
 
-// How many calls of the first disk there are to fail, or of the second.
+// How many calls of the first or of the second disk can fail.
 fn calls_of<A: Abort>(rt: &A, alloc: Global, second: bool) -> Result<u64, Fail> {
     for calls in 0..MOST_CALLS {
         let before = if second {
@@ -219,9 +215,9 @@ fn calls_of<A: Abort>(rt: &A, alloc: Global, second: bool) -> Result<u64, Fail> 
     Err(Fail::from("no end of calls"))
 }
 
-// Of the first disk the opening makes five calls, and each flush four, of two notes or of one; two calls read a debt
-// that is told, two one that is claimed, and one all that a rotation writes anew. Of the second the opening makes one,
-// and the rotation eight.
+// The opening makes five calls of the first disk, and each flush four, of one note or two. Two calls read a debt that
+// is asked for, two one that is claimed, and one all that a rotation rewrites. The opening makes one call of the second
+// disk, and the rotation eight.
 #[test]
 fn a_fault_at_any_call_leaves_a_front(rt: HostRuntime) -> Result<(), Fail> {
     assert_eq!(rt; calls_of(&rt, rt.alloc(), false)?, 18);

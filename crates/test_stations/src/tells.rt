@@ -1,5 +1,5 @@
-// What a connection tells of its peer and of its debts: the debt wanted first, whether the peer has answered, the debt
-// whose command was the first without an answer at the close, the reply that closed it, and its reason in words.
+// What a connection says of its peer and of its debts: the debt wanted first, whether the peer has answered, the debt
+// whose command was the first unanswered one at the close, the reply that closed it, and the reason in words.
 use crate::exchange::{CHECKED, PLAIN, Row, STREAMING, Step, play_rows};
 use crate::shared::{
     BACK, LATER, MISSING, Place, article, assert_same, connection, funnel_key, hand, input, names,
@@ -392,8 +392,8 @@ fn reasons_have_words(rt: HostRuntime) -> Result<(), Fail> {
     Ok(())
 }
 
-// How many lines a long article has, of 64 octets each with LF: so its block has 65 octets a line, and three behind
-// them. That is more than the room that an output keeps once it is empty.
+// How many lines a long article has, of 64 octets each with the LF. In its block each line has 65 octets, and three
+// octets follow: that is more than the room that an output keeps once it is empty.
 const LINES: usize = 5_000;
 
 fn long_text(alloc: Global) -> Result<Vec<u8>, Fail> {
@@ -405,14 +405,14 @@ fn long_text(alloc: Global) -> Result<Vec<u8>, Fail> {
     Ok(text)
 }
 
-// All of the output was sent, and had so many octets.
+// All of the output was sent; it had this many octets.
 fn drain<A: Abort>(rt: &A, conn: &mut Conn, want: usize) {
     let count = conn.output().len();
     assert_same(rt, Place::first("a long article"), &count, &want);
     conn.sent(count);
 }
 
-// The room for a long article is given back once it was sent, and what follows goes out as before: QUIT too.
+// The room for a long article is given back once the article was sent, and what follows goes out as before, also QUIT.
 #[test]
 fn long_articles_go_out(rt: HostRuntime) -> Result<(), Fail> {
     let mut conn = connection(rt.alloc(), CxnId(1), false)?;

@@ -1,8 +1,8 @@
-// How fast a `Conn` sends articles, beside a plain copy of the octets that it puts out.
+// How fast a `Conn` sends articles, compared with a plain copy of the octets that it puts out.
 //
-// `conn ARTICLES OCTETS TEXTS` sends that many articles of at most so many octets through one streaming connection, 20
-// at a time, whose peer wants and takes each; `copy ARTICLES OCTETS TEXTS` copies as many blocks into a buffer that is
-// used again. Both take their articles from so many texts in turn, each in memory of its own.
+// `conn ARTICLES OCTETS TEXTS` sends this many articles, of at most this many octets each, through one streaming
+// connection, 20 at a time, whose peer wants and takes each. `copy ARTICLES OCTETS TEXTS` copies as many blocks into a
+// buffer that is used again. Both take their articles from this many texts in turn, each in memory of its own.
 use crate::peer::{IN_FLIGHT, answers_of, drain, ids_of, offer, streaming, token_of};
 use crate::texts::text_of;
 use crate::time::{number, tell};
@@ -16,8 +16,7 @@ use ledger_core::{Debt, Key};
 use std::alloc::{AllocError, Global};
 use std::time::{Clock, Instant};
 
-/// What is sent, and what a peer answers to as many articles as are under way, made before the
-/// clock runs.
+/// What is sent, and what a peer replies to as many articles as are under way, made before the clock runs.
 #[derive(Drop)]
 pub struct Feed {
     pub texts: Vec<Bytes>,
@@ -45,7 +44,6 @@ pub fn run<R: AllocGlobal + Print + Clock>(rt: &R, words: &[String]) -> Result<(
     }
 }
 
-// Some small articles.
 fn small<R: AllocGlobal + Print>(rt: &R) -> Result<()> {
     let texts = texts_of(rt.alloc(), 1000, 3)?;
     let told = sent(rt.alloc(), &feed_of(rt.alloc(), texts)?, 100)?;
@@ -80,7 +78,7 @@ fn measured<R: AllocGlobal + Print + Clock>(
     }
 }
 
-/// So many texts of the same lines.
+/// This many texts, all of the same lines.
 pub fn texts_of(alloc: Global, octets: u64, count: u64) -> Result<Vec<Bytes>, AllocError> {
     let mut texts = Vec::new(alloc);
     for _ in 0..count {
@@ -99,7 +97,7 @@ pub fn blocks_of(alloc: Global, texts: Vec<Bytes>) -> Result<Vec<Bytes>> {
     Ok(blocks)
 }
 
-// Copies so many of the blocks in turn, as many into one buffer as articles are under way.
+// Copies this many blocks, in turn, into a buffer that is emptied after each batch of as many as may be under way.
 fn copied(alloc: Global, blocks: &[Bytes], articles: u64) -> Result<u64> {
     let mut sum = 0u64;
     let mut buffer = Vec::new(alloc);
@@ -114,13 +112,13 @@ fn copied(alloc: Global, blocks: &[Bytes], articles: u64) -> Result<u64> {
     Ok(sum)
 }
 
-/// The one of them whose turn it is.
+/// The text whose turn it is.
 pub fn in_turn(texts: &[Bytes], number: u64) -> Option<&Bytes> {
     let place = (number as usize).checked_rem(texts.len())?;
     texts.get(place)
 }
 
-/// What it takes to send these texts in turn.
+/// What is needed to send these texts in turn.
 pub fn feed_of(alloc: Global, texts: Vec<Bytes>) -> Result<Feed> {
     let ids = ids_of(alloc)?;
     Ok(Feed {
@@ -132,7 +130,7 @@ pub fn feed_of(alloc: Global, texts: Vec<Bytes>) -> Result<Feed> {
     })
 }
 
-// Sends so many articles, each of the text whose turn it is, all under way at once that may be.
+// Sends this many articles, in turn of these texts, with as many under way at once as may be.
 fn sent(alloc: Global, feed: &Feed, articles: u64) -> Result<Told> {
     let mut conn = streaming(alloc)?;
     let mut told = Told {
@@ -180,7 +178,7 @@ fn hand_in(conn: &mut Conn, key: Key, text: Bytes) -> Result<()> {
     Ok(())
 }
 
-/// Takes the outcomes, and counts the final answers among them.
+/// Takes the outcomes, and returns how many are final answers.
 pub fn finals(conn: &mut Conn) -> u64 {
     let mut count = 0u64;
     for _ in 0..IN_FLIGHT {

@@ -1,4 +1,4 @@
-// How fast texts are made into blocks, beside a plain copy of the same octets.
+// How fast texts are made into blocks, compared with a plain copy of the same octets.
 //
 // `block MIB` and `copy MIB` do one of the two over that many MiB, in texts of at most 16 MiB.
 use crate::texts::text_of;
@@ -18,7 +18,6 @@ pub fn run<R: AllocGlobal + Print + Clock>(rt: &R, words: &[String]) -> Result<(
     }
 }
 
-// A small article, some times over.
 fn small<R: AllocGlobal + Print>(rt: &R) -> Result<()> {
     let text = text_of(rt.alloc(), 1000)?;
     for work in ["block", "copy"] {
@@ -41,7 +40,6 @@ fn measured<R: AllocGlobal + Print + Clock>(rt: &R, work: &str, mib: u64) -> Res
     tell(rt, sum, "octets", start.elapsed(rt)?)
 }
 
-// Makes a text into blocks or copies, and counts their octets.
 fn made(alloc: Global, work: &str, text: &[u8], times: u64) -> Result<u64> {
     let mut sum = 0u64;
     for _ in 0..times {

@@ -1,8 +1,8 @@
-// How fast a `Station` claims all that it owes, if some of it is of the funnel and the rest of backlog files.
+// How fast a `Station` claims all that it owes, if some of it is from the funnel and the rest from backlog files.
 //
-// `claim SOURCES LINES IMPORTED` owes so many lines of the funnel over a disk in memory, imports so many lines of
-// backlog files, spread evenly over so many sources, and flushes them all. Then it claims each debt, one after another;
-// the time is that of the claims alone.
+// `claim SOURCES LINES IMPORTED` owes this many lines of the funnel over a disk in memory, imports this many lines of
+// backlog files, spread evenly over this many sources, and flushes them all. Then it claims each debt, one after
+// another. The time is that of the claims alone.
 use crate::debts::{claim, flush, opened};
 use crate::peer::token_of;
 use crate::time::{number, tell};
@@ -13,14 +13,14 @@ use peer_queue::Station;
 use std::alloc::Global;
 use std::time::{Clock, Duration, Instant};
 
-// How much a station is to owe.
+// How much a station will owe.
 #[derive(Clone, Copy)]
 struct Amounts {
     // How many sources, one to a backlog file, the imported lines are spread over.
     sources: u64,
     // How many lines of the funnel.
     lines: u64,
-    // How many lines of all the backlog files together.
+    // How many lines of all backlog files together.
     imported: u64,
 }
 
@@ -66,14 +66,13 @@ pub fn small<R: AllocGlobal + Print + Clock>(rt: &R) -> Result<()> {
     Ok(())
 }
 
-// Owes so much, and claims all of it.
 fn claimed<R: AllocGlobal + Clock>(rt: &R, amounts: Amounts) -> Result<Told> {
     let mut station = opened(rt.alloc())?;
     owe_all(rt.alloc(), &mut station, amounts)?;
     claim_all(rt, &mut station, amounts)
 }
 
-// Owes so much, none of which pends.
+// Owes all of it, and flushes it.
 //
 // proof: the article in a frame of its own, so that no way out drops both it and the station.
 fn owe_all(alloc: Global, station: &mut Station<MemDisk>, amounts: Amounts) -> Result<()> {
@@ -91,7 +90,6 @@ fn article_of(alloc: Global) -> Result<Article> {
     })
 }
 
-// Owes so many lines of the funnel.
 fn owe_lines(station: &mut Station<MemDisk>, article: &Article, count: u64) -> Result<()> {
     for number in 1..=count {
         owe(station, article, number)?;
@@ -99,7 +97,7 @@ fn owe_lines(station: &mut Station<MemDisk>, article: &Article, count: u64) -> R
     Ok(())
 }
 
-// Imports the lines of all sources, each of which has its even share of what is left.
+// Imports the lines of all sources; each has an even share of what is left.
 fn import_all(station: &mut Station<MemDisk>, article: &Article, amounts: Amounts) -> Result<()> {
     let mut left = amounts.imported;
     for closed in 0..amounts.sources {
@@ -110,7 +108,7 @@ fn import_all(station: &mut Station<MemDisk>, article: &Article, amounts: Amount
     Ok(())
 }
 
-// Imports so many lines of the source that is open, and closes it.
+// Imports this many lines of the open source, and closes it.
 fn import_source(station: &mut Station<MemDisk>, article: &Article, count: u64) -> Result<()> {
     for number in 1..=count {
         import(station, article, number)?;
@@ -118,7 +116,8 @@ fn import_source(station: &mut Station<MemDisk>, article: &Article, count: u64) 
     close(station)
 }
 
-// proof: what the calls of the station ensure is left behind in each of these, so that its callers carry none of it.
+// proof: each of these is a function of its own, so that its callers' proofs don't carry what the station's calls
+// ensure.
 fn owe(station: &mut Station<MemDisk>, article: &Article, number: u64) -> Result<()> {
     make_room(station)?;
     station.owe(number, &article.token, &article.id)?;
@@ -145,7 +144,7 @@ fn make_room(station: &mut Station<MemDisk>) -> Result<()> {
     Ok(())
 }
 
-// Claims all that a station owes, which is so much.
+// Claims all that a station owes, which is this much.
 fn claim_all<R: Clock>(rt: &R, station: &mut Station<MemDisk>, amounts: Amounts) -> Result<Told> {
     let count = station.totals().owed;
     if count != amounts.lines.saturating_add(amounts.imported) {
@@ -157,7 +156,6 @@ fn claim_all<R: Clock>(rt: &R, station: &mut Station<MemDisk>, amounts: Amounts)
     Ok(Told { count, time })
 }
 
-// Claims so many debts, one after another.
 fn claim_each(station: &mut Station<MemDisk>, count: u64) -> Result<()> {
     for _ in 0..count {
         claim(station, 0)?.context("a debt")?;

@@ -16,7 +16,7 @@ impl<D: Disk> CountedDisk<D> {
         CountedDisk { disk, calls: 0 }
     }
 
-    /// How many calls there were, at most the greatest `u64`.
+    /// How many calls there were, at most `u64::MAX`.
     pub fn calls(&self) -> u64 {
         self.calls
     }

@@ -1,10 +1,9 @@
-// How fast a `Station` works off what it owes, all of it owed at once before the first debt is claimed.
+// How fast a `Station` works off its debts, if all are owed before the first is claimed.
 //
-// `run COUNT` owes so many debts over a disk in memory, and has a peer that wants none of them: each is claimed and
-// settled. `defer COUNT` owes as many, and has a peer that puts off each: all are claimed, deferred, and claimed again
-// once the moment has passed. The time is that of the calls of the station; the connection that answers is not in it.
-// `shed COUNT` owes as many at a station whose backlog may have none of them, and sheds all. `claim` stands in a module
-// of its own.
+// `run COUNT` owes this many debts over a disk in memory, to a peer that wants none of them: each is claimed and
+// settled. `defer COUNT` owes as many, to a peer that defers each: all are claimed, deferred, and claimed again once
+// the moment has passed. The time is that of the station's calls, without the connection that answers. `shed COUNT`
+// owes as many at a station whose backlog may have none of them, and sheds all. `claim` has a module of its own.
 use crate::claims;
 use crate::peer::{CONNECTION, IN_FLIGHT, answers_of, drain, ids_of, offer, streaming, token_of};
 use crate::time::{number, tell};
@@ -17,7 +16,7 @@ use peer_queue::{Limits, Station};
 use std::alloc::Global;
 use std::time::{Clock, Duration, Instant};
 
-// How many times as many debts as are under way are owed or settled before each flush.
+// How many batches of debts are owed or settled before each flush; a batch is as many as may be under way.
 const BATCHES: u64 = 50;
 
 // What the peer does with each debt.
@@ -25,11 +24,11 @@ const BATCHES: u64 = 50;
 enum Work {
     // It wants none: each is settled.
     Settle,
-    // It puts off each: each is deferred, and claimed again.
+    // It defers each: each is claimed again.
     Defer,
 }
 
-// The connection to the peer, and what that answers to as many debts as are under way, made before the clock runs.
+// The connection to the peer, and the peer's answers to a batch, made before the clock runs.
 #[derive(Drop)]
 struct Peer {
     conn: Conn,
@@ -43,14 +42,14 @@ struct Peer {
 struct Told {
     // How many were settled or deferred.
     answered: u64,
-    // How many were claimed once their moment had passed.
+    // How many were claimed again once their moment had passed.
     claimed_again: u64,
-    // The time that the calls of the station took.
+    // The time that the station's calls took.
     time: Duration,
 }
 
 impl Told {
-    // Adds the time since a start.
+    // Adds the time since the start.
     fn stop<R: Clock>(&mut self, rt: &R, start: Instant) -> Result<()> {
         let time = start.elapsed(rt)?;
         self.time = self.time.saturating_add(time);
@@ -68,7 +67,6 @@ pub fn run<R: AllocGlobal + Print + Clock>(rt: &R, words: &[String]) -> Result<(
     tell(rt, count, "debts", time)
 }
 
-// How long this takes with so many debts.
 fn time_of<R: AllocGlobal + Clock>(rt: &R, work: &str, count: u64) -> Result<Duration> {
     match work {
         "run" => Ok(worked_off(rt, Work::Settle, count)?.time),
@@ -91,7 +89,6 @@ fn small<R: AllocGlobal + Print + Clock>(rt: &R) -> Result<()> {
     claims::small(rt)
 }
 
-// Owes so many debts, and works them off.
 fn worked_off<R: AllocGlobal + Clock>(rt: &R, work: Work, count: u64) -> Result<Told> {
     let mut peer = peer_of(rt.alloc(), work)?;
     worked_off_with(rt, &mut peer, work, count)
@@ -117,7 +114,7 @@ fn worked_off_with<R: AllocGlobal + Clock>(
     Ok(told)
 }
 
-// Owes so many debts at a station whose backlog may have none of them, and sheds all, with a flush behind each call.
+// Owes this many debts at a station whose backlog may have none of them, and sheds all, with a flush after each call.
 // What was shed counts as answered.
 fn shed_off<R: AllocGlobal + Clock>(rt: &R, count: u64) -> Result<Told> {
     let mut station = limited(rt.alloc(), 1)?;
@@ -131,7 +128,7 @@ fn shed_off<R: AllocGlobal + Clock>(rt: &R, count: u64) -> Result<Told> {
     })
 }
 
-// Owes so many debts, as `owe_all`.
+// Owes debts as `owe_all` does.
 //
 // proof: as `worked_off_with`.
 fn owe_new(alloc: Global, station: &mut Station<MemDisk>, count: u64) -> Result<()> {
@@ -139,7 +136,7 @@ fn owe_new(alloc: Global, station: &mut Station<MemDisk>, count: u64) -> Result<
     owe_all(station, &peer, count)
 }
 
-// Sheds until no more is to be shed, and counts what was, with so many calls at most.
+// Sheds until nothing more is to be shed, with at most this many calls, and returns how many debts were shed.
 fn all_shed(station: &mut Station<MemDisk>, most: u64) -> Result<u64> {
     let mut count = 0u64;
     for _ in 0..most {
@@ -152,7 +149,7 @@ fn all_shed(station: &mut Station<MemDisk>, most: u64) -> Result<u64> {
     Ok(count)
 }
 
-// Sheds what there is room for, and flushes. Answers how many that were, and whether there are more.
+// Sheds what there is room for, and flushes. Returns how many debts that were, and whether there are more.
 //
 // proof: as `flush`.
 fn shed(station: &mut Station<MemDisk>) -> Result<(u64, bool)> {
@@ -161,7 +158,7 @@ fn shed(station: &mut Station<MemDisk>) -> Result<(u64, bool)> {
     Ok((shed.keys.len() as u64, shed.more))
 }
 
-// Claims so many debts in batches, and tells the station what the peer answers.
+// Claims this many debts in batches, and settles each as the peer answers.
 fn work_off<R: AllocGlobal + Clock>(
     rt: &R,
     station: &mut Station<MemDisk>,
@@ -177,7 +174,6 @@ fn work_off<R: AllocGlobal + Clock>(
     Ok(())
 }
 
-// Claims as many debts as may be under way.
 fn claim_batch<R: AllocGlobal + Clock>(
     rt: &R,
     station: &mut Station<MemDisk>,
@@ -189,7 +185,7 @@ fn claim_batch<R: AllocGlobal + Clock>(
     Ok(debts)
 }
 
-// Tells the station what became of as many, with a flush now and then.
+// Settles a batch, with a flush now and then.
 fn end_batch<R: Clock>(
     rt: &R,
     station: &mut Station<MemDisk>,
@@ -206,7 +202,7 @@ fn end_batch<R: Clock>(
     told.stop(rt, start)
 }
 
-// Flushes what pends, and claims what was put off again.
+// Flushes what pends, and claims again what was deferred.
 fn end_all<R: Clock>(
     rt: &R,
     station: &mut Station<MemDisk>,
@@ -236,7 +232,7 @@ fn peer_of(alloc: Global, work: Work) -> Result<Peer> {
     })
 }
 
-// Offers a batch of debts, and gives what the peer makes of them.
+// Offers a batch of debts, and returns what the peer makes of them.
 fn outcomes_of(alloc: Global, peer: &mut Peer, debts: Vec<Debt>) -> Result<Vec<Outcome>> {
     for debt in debts {
         offer(&mut peer.conn, debt)?;
@@ -250,14 +246,14 @@ fn outcomes_of(alloc: Global, peer: &mut Peer, debts: Vec<Debt>) -> Result<Vec<O
     Ok(outcomes)
 }
 
-// A station over a disk in memory that owes so many debts, in whole batches, none of which pends.
+// A station over a disk in memory that owes this many debts, rounded down to whole batches, with no note pending.
 fn owing(alloc: Global, peer: &Peer, count: u64) -> Result<Station<MemDisk>> {
     let mut station = opened(alloc)?;
     owe_all(&mut station, peer, count)?;
     Ok(station)
 }
 
-// Owes so many debts, in whole batches, and flushes.
+// Owes this many debts, rounded down to whole batches, and flushes.
 fn owe_all(station: &mut Station<MemDisk>, peer: &Peer, count: u64) -> Result<()> {
     for round in 0..count / IN_FLIGHT {
         owe_batch(station, peer, round)?;
@@ -273,7 +269,7 @@ pub fn opened(alloc: Global) -> Result<Station<MemDisk>> {
     limited(alloc, 0)
 }
 
-// A station over empty disks in memory, whose backlog may have so many octets, or any number of them at 0.
+// A station over empty disks in memory, whose backlog may have this many octets, or any number of them if 0.
 fn limited(alloc: Global, octets: u64) -> Result<Station<MemDisk>> {
     let limits = Limits {
         backlog_limit: octets,
@@ -286,7 +282,6 @@ fn limited(alloc: Global, octets: u64) -> Result<Station<MemDisk>> {
     }
 }
 
-// Owes one debt of each id.
 fn owe_batch(station: &mut Station<MemDisk>, peer: &Peer, round: u64) -> Result<()> {
     for (place, id) in peer.ids.iter().enumerate() {
         let number = round.saturating_mul(IN_FLIGHT).saturating_add(place as u64);
@@ -297,7 +292,7 @@ fn owe_batch(station: &mut Station<MemDisk>, peer: &Peer, round: u64) -> Result<
 
 /// Flushes a station.
 //
-// proof: what a call of the station ensures is left behind here, so that its callers carry none of it.
+// proof: in a function of its own, so that its callers' proofs don't carry what a call of the station ensures.
 pub fn flush(station: &mut Station<MemDisk>) -> Result<()> {
     station.flush()?;
     Ok(())
@@ -311,7 +306,6 @@ pub fn claim(station: &mut Station<MemDisk>, now: u64) -> Result<Option<Debt>> {
     Ok(debt)
 }
 
-// Claims as many debts as may be under way.
 fn claimed(alloc: Global, station: &mut Station<MemDisk>) -> Result<Vec<Debt>> {
     let mut debts = Vec::new(alloc);
     for _ in 0..IN_FLIGHT {
@@ -320,7 +314,7 @@ fn claimed(alloc: Global, station: &mut Station<MemDisk>) -> Result<Vec<Debt>> {
     Ok(debts)
 }
 
-// Claims so many debts that were deferred at the moment 0, and counts them.
+// Tries this many times to claim a debt that was deferred at moment 0, and returns how many it claimed.
 fn all_claimed(station: &mut Station<MemDisk>, most: u64) -> Result<u64> {
     let mut count = 0u64;
     for _ in 0..most {
@@ -331,7 +325,7 @@ fn all_claimed(station: &mut Station<MemDisk>, most: u64) -> Result<u64> {
     Ok(count)
 }
 
-// Settles or defers each, at the moment 0, and counts them.
+// Settles or defers the debt of each outcome, at moment 0, and returns how many there were.
 fn end_each(station: &mut Station<MemDisk>, outcomes: Vec<Outcome>) -> Result<u64> {
     let mut count = 0u64;
     for outcome in outcomes {

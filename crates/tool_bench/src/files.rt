@@ -1,11 +1,10 @@
 // How fast a tape in files flushes its notes, and how fast it is opened.
 //
-// `flush DIRECTORY COUNT NOTES` flushes so many notes so many times to a new tape in two files of
-// this directory, 256 if no number of notes is given; the making of the notes is not in the time.
-// `fill DIRECTORY COUNT` leaves the tape of so many debts there, 51,200 to a flush, and prints how
-// much memory the program took at most, as Linux tells it. `open DIRECTORY` opens it, and `memory
-// DIRECTORY` prints the same of that. `rotate DIRECTORY COUNT` rotates the tape there so many times;
-// its opening is not in the time.
+// `flush DIRECTORY COUNT NOTES` makes COUNT flushes of NOTES notes each, 256 by default, to a new tape in two files of
+// this directory; the time is that of the flushes alone. `fill DIRECTORY COUNT` leaves there a tape with this many
+// debts, 51,200 to a flush, and prints the program's peak memory, as Linux reports it. `open DIRECTORY` opens that
+// tape, and `memory DIRECTORY` prints the peak memory of doing so. `rotate DIRECTORY COUNT` rotates that tape this many
+// times; the time is without the opening.
 use crate::openings::{open, owe};
 use crate::time::{number, tell};
 use anyhow::{Context, Result, bail};
@@ -63,7 +62,7 @@ fn small<R: AllocGlobal + Print + Clock + Files<File = File>>(rt: &R) -> Result<
     remove(rt, ".")
 }
 
-// Flushes so many notes so many times to a new tape in this directory, and gives the time that the flushes took.
+// Flushes this many notes this many times to a new tape in this directory, and returns the time that the flushes took.
 //
 // proof: the tape of each of these in a frame of its own, so that no way out of its caller drops it.
 fn flushed_in<R: AllocGlobal + Clock + Files<File = File>>(
@@ -75,7 +74,7 @@ fn flushed_in<R: AllocGlobal + Clock + Files<File = File>>(
     flushed(rt, &mut emptied(rt, path)?, count, notes)
 }
 
-// Rotates the tape in this directory so many times, and gives the time that it took.
+// Rotates the tape in this directory this many times, and returns the time that it took.
 fn rotated_in<R: AllocGlobal + Clock + Files<File = File>>(
     rt: &R,
     path: &str,
@@ -89,7 +88,6 @@ fn owed_in<R: AllocGlobal + Files<File = File>>(rt: &R, path: &str) -> Result<u6
     Ok(tape_in(rt, path)?.totals().owed)
 }
 
-// The tape in this directory.
 fn tape_in<R: AllocGlobal + Files<File = File>>(
     rt: &R,
     path: &str,
@@ -98,7 +96,6 @@ fn tape_in<R: AllocGlobal + Files<File = File>>(
     open(rt.alloc(), first, second)
 }
 
-// A new tape in this directory.
 fn emptied<R: AllocGlobal + Files<File = File>>(
     rt: &R,
     path: &str,
@@ -107,7 +104,7 @@ fn emptied<R: AllocGlobal + Files<File = File>>(
     tape_in(rt, path)
 }
 
-/// The disks of the tape in this directory; where it has none, empty ones.
+/// The disks of the tape in this directory; empty ones if it has none.
 pub fn disks_in<R: AllocGlobal + Files<File = File>>(
     rt: &R,
     path: &str,
@@ -118,7 +115,7 @@ pub fn disks_in<R: AllocGlobal + Files<File = File>>(
     Ok((first, second))
 }
 
-/// Removes the tape in this directory, where it has one.
+/// Removes the tape in this directory, if it has one.
 pub fn remove<R: AllocGlobal + Files<File = File>>(rt: &R, path: &str) -> Result<()> {
     for name in [FIRST, SECOND] {
         let file = format!(in rt.alloc(); "{path}/{name}")?;
@@ -127,7 +124,6 @@ pub fn remove<R: AllocGlobal + Files<File = File>>(rt: &R, path: &str) -> Result
     Ok(())
 }
 
-// Flushes so many notes so many times, and gives the time that the flushes took.
 fn flushed<R: AllocGlobal + Clock>(
     rt: &R,
     tape: &mut Tape<FileDisk<TapeFile>>,
@@ -144,7 +140,6 @@ fn flushed<R: AllocGlobal + Clock>(
     Ok(time)
 }
 
-// Rotates a tape so many times, and gives the time that it took.
 fn rotated<R: AllocGlobal + Clock>(
     rt: &R,
     tape: &mut Tape<FileDisk<TapeFile>>,
@@ -157,7 +152,7 @@ fn rotated<R: AllocGlobal + Clock>(
     Ok(start.elapsed(rt)?)
 }
 
-// Owes 256 debts so many times, with a flush now and then.
+// Owes 256 debts this many times, with a flush now and then.
 fn fill<R: AllocGlobal>(rt: &R, tape: &mut Tape<FileDisk<TapeFile>>, count: u64) -> Result<()> {
     for round in 0..count {
         note_all(rt, tape, NOTES)?;
@@ -168,7 +163,6 @@ fn fill<R: AllocGlobal>(rt: &R, tape: &mut Tape<FileDisk<TapeFile>>, count: u64)
     flush(tape)
 }
 
-// So many debts more.
 fn note_all<R: AllocGlobal>(rt: &R, tape: &mut Tape<FileDisk<TapeFile>>, notes: u64) -> Result<()> {
     for _ in 0..notes {
         note(rt, tape)?;
@@ -176,7 +170,6 @@ fn note_all<R: AllocGlobal>(rt: &R, tape: &mut Tape<FileDisk<TapeFile>>, notes: 
     Ok(())
 }
 
-// One debt more.
 fn note<R: AllocGlobal>(rt: &R, tape: &mut Tape<FileDisk<TapeFile>>) -> Result<()> {
     match tape.note(owe(rt.alloc(), tape.mark().saturating_add(1))?) {
         Ok(()) => Ok(()),

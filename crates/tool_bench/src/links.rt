@@ -1,10 +1,10 @@
-// How fast `drive` sends articles through a link in memory, beside plain sends of the same octets
-// through such a link.
+// How fast `drive` sends articles through a link in memory, compared with plain sends of the same octets through such a
+// link.
 //
-// `drive ARTICLES OCTETS` has a connection send that many articles of at most so many octets, 20 at
-// a time; the clock runs while the octets of the articles go out and the replies come in. `copy
-// ARTICLES OCTETS` sends the blocks of as many articles, as they stand one behind the other in
-// memory, and takes in as many replies, by the calls of the link alone.
+// `drive ARTICLES OCTETS` makes a connection send this many articles, of at most this many octets each, 20 at a time;
+// the clock runs while the octets of the articles go out and the replies come in. `copy ARTICLES OCTETS` sends the
+// blocks of as many articles, one after another in memory, and receives as many replies, by the calls of the link
+// alone.
 use crate::articles::{
     Feed, blocks_of, feed_of, finals, hand_in_each, in_turn, offer_each, texts_of,
 };
@@ -17,13 +17,13 @@ use event_loop::{Driven, End, Link, MemLink, Moved, drive};
 use std::alloc::Global;
 use std::time::{Clock, Duration, Instant};
 
-// How many octets a link moves at most, as much as a buffer for receipts has.
+// How many octets a link moves at most, as many as a buffer for receiving has.
 const PIECE: usize = 65_536;
 
-// Out of so many texts the articles are taken in turn.
+// How many texts the articles are taken from, in turn.
 const TEXTS: u64 = 3;
 
-// No batch takes as many turns.
+// More turns than any batch takes.
 const TURNS: u64 = 100_000;
 
 // What went out, how many articles were taken, and the time.
@@ -41,7 +41,7 @@ impl Told {
         time: Duration::ZERO,
     };
 
-    // Adds the octets that a link took, and the time since a start.
+    // Adds the octets that a link took, and the time since the start.
     fn stop<R: Clock>(&mut self, rt: &R, start: Instant, link: &MemLink) -> Result<()> {
         let time = start.elapsed(rt)?;
         self.time = self.time.saturating_add(time);
@@ -77,7 +77,7 @@ fn small<R: AllocGlobal + Print + Clock>(rt: &R) -> Result<()> {
     Ok(())
 }
 
-// Sends so many articles of at most so many octets.
+// Sends this many articles, of at most this many octets each.
 //
 // proof: what is sent in a frame of its own, here and in the next, so that no way out of their callers drops it.
 fn articles_driven<R: AllocGlobal + Clock>(rt: &R, articles: u64, octets: u64) -> Result<Told> {
@@ -85,19 +85,17 @@ fn articles_driven<R: AllocGlobal + Clock>(rt: &R, articles: u64, octets: u64) -
     driven(rt, &feed_of(rt.alloc(), texts)?, articles)
 }
 
-// Sends the blocks of so many articles of at most so many octets.
 fn blocks_copied<R: AllocGlobal + Clock>(rt: &R, articles: u64, octets: u64) -> Result<Told> {
     let blocks = blocks_of(rt.alloc(), texts_of(rt.alloc(), octets, TEXTS)?)?;
     copied(rt, &feed_of(rt.alloc(), blocks)?, articles)
 }
 
-// A link that gives these octets.
 fn link_of(alloc: Global, octets: &[u8]) -> Result<MemLink> {
     let source = octets.to_vec(alloc)?;
     Ok(MemLink::new(alloc, source, PIECE, End::Never, End::Never))
 }
 
-// Sends so many articles, all under way at once that may be.
+// Sends this many articles, with as many under way at once as may be.
 fn driven<R: AllocGlobal + Clock>(rt: &R, feed: &Feed, articles: u64) -> Result<Told> {
     let mut conn = streaming(rt.alloc())?;
     let mut buffer = vec![in rt.alloc(); 0; PIECE]?;
@@ -109,7 +107,7 @@ fn driven<R: AllocGlobal + Clock>(rt: &R, feed: &Feed, articles: u64) -> Result<
     Ok(told)
 }
 
-// As many articles as may be under way are handed in, and none is sent yet.
+// Hands in a batch of articles, and sends none yet.
 fn ready_batch(conn: &mut Conn, feed: &Feed, round: u64) -> Result<()> {
     offer_each(conn, feed, round)?;
     drain(conn);
@@ -137,12 +135,12 @@ fn drive_batch<R: AllocGlobal + Clock>(
     Ok(())
 }
 
-// proof: what `drive` ensures is left behind here, so that its callers carry none of it.
+// proof: in a function of its own, so that its callers' proofs don't carry what `drive` ensures.
 fn driven_once(conn: &mut Conn, link: &mut MemLink, buffer: &mut [u8]) -> Driven {
     drive(conn, link, buffer, TURNS)
 }
 
-// Sends as many blocks in turn, and takes in as many replies.
+// Sends as many blocks in turn, and receives as many replies.
 fn copied<R: AllocGlobal + Clock>(rt: &R, feed: &Feed, articles: u64) -> Result<Told> {
     let mut buffer = vec![in rt.alloc(); 0; PIECE]?;
     let mut batch = Vec::new(rt.alloc());
@@ -159,7 +157,7 @@ fn copied<R: AllocGlobal + Clock>(rt: &R, feed: &Feed, articles: u64) -> Result<
     Ok(told)
 }
 
-// The octets of as many blocks in turn as articles may be under way.
+// Fills the batch with the octets of its blocks, in turn.
 fn fill_batch(batch: &mut Vec<u8>, blocks: &[Bytes], round: u64) -> Result<()> {
     batch.clear();
     for place in 0..IN_FLIGHT {
@@ -169,7 +167,6 @@ fn fill_batch(batch: &mut Vec<u8>, blocks: &[Bytes], round: u64) -> Result<()> {
     Ok(())
 }
 
-// Sends all of these octets.
 fn send(link: &mut MemLink, octets: &[u8]) -> Result<()> {
     let mut rest = octets;
     for _ in 0..TURNS {
@@ -182,7 +179,7 @@ fn send(link: &mut MemLink, octets: &[u8]) -> Result<()> {
     bail!("a block was not sent")
 }
 
-// Takes in all that it gives.
+// Receives all that the link gives.
 fn receive(link: &mut MemLink, buffer: &mut [u8]) {
     for _ in 0..TURNS {
         let Moved::Done(_) = link.recv(buffer) else {

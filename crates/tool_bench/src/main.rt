@@ -1,10 +1,9 @@
-//! The benchmarks: each word but none names one, which stands in a module of its own.
+//! The benchmarks: each word of `NAMES` names one, which has a module of its own.
 //!
-//! May touch its arguments, the clock and standard output, and a file where one is measured; it
-//! stands on the public calls of what it measures. With no argument each benchmark runs once, small
-//! and quick, and prints what is the same on each run. `NAME` runs that one so, and `NAME WORD ..`
-//! does a piece of work at length and prints `COUNT WHAT N nanoseconds`, from which the scripts in
-//! bench/ print ratios. Nothing stands above it, and it promises nothing.
+//! May touch its arguments, the clock and standard output, and files if it measures them. It stands on the public calls
+//! of what it measures. With no argument each benchmark runs once, small and quick, and prints what is the same on each
+//! run. `NAME` runs that one in the same way, and `NAME WORD ..` does a longer piece of work and prints `COUNT WHAT N
+//! nanoseconds`, from which the scripts in bench/ print ratios. Nothing stands above it, and it promises nothing.
 #![tactic(auto)]
 
 mod articles;
@@ -30,7 +29,7 @@ use std::fs::File;
 use std::rt::Files;
 use std::time::Clock;
 
-/// What is measured, each by the name of its crate; `debt` is the way of one through several.
+/// What is measured, each by the name of its crate; `debt` is the way of a debt through several.
 const NAMES: [&str; 11] = [
     "conn_core",
     "debt",

@@ -1,9 +1,10 @@
-// How the work of a `Later` grows with its numbers, in four patterns, its numbers put in by one of two orders.
+// How the work of a `Later` grows with its numbers, in four patterns, and for two orders in which the numbers are put
+// in.
 //
-// `PATTERN ORDER COUNT` does one: `together`, all are due at once, and each is taken out as the least due; `waiting`,
-// none is due, and it is asked once for each number; `again`, the least due is taken out and put in again for 60
-// seconds later, once for each number; `held`, each, in the order in which they were put in, is made due at no moment,
-// and the least due from it on is asked. The putting in of the numbers is in the time.
+// `PATTERN ORDER COUNT` runs one pattern. `together`: all are due at once, and each is taken out as the least due.
+// `waiting`: none is due, and the least due is asked for once for each number. `again`: the least due is taken out and
+// put in again for 60 seconds later, once for each number. `held`: each, in the order in which they were put in, is
+// made due at no moment, and then the least due is asked for. The time includes that of putting the numbers in.
 use crate::time::{number, tell};
 use anyhow::{Result, bail};
 use deferral::Later;
@@ -11,17 +12,17 @@ use ledger_core::Key;
 use std::alloc::Global;
 use std::time::{Clock, Instant};
 
-// In which order the numbers are put in: those below the count, each once.
+// In which order the numbers below the count are put in, each once.
 #[derive(Clone, Copy)]
 enum Order {
     // From the least to the greatest.
     Rising,
-    // Each far from the one before it, so that numbers beside one another lie far apart in memory.
+    // Each far from the one before it, so that neighbouring numbers lie far apart in memory.
     Scattered,
 }
 
-// How far apart numbers in scattered order are, modulo their count. It is prime: each number comes once, but for a
-// count that it divides.
+// How far apart successive numbers are in scattered order, modulo their count. It is prime: each number comes once,
+// unless the count is a multiple of it.
 const STRIDE: u64 = 461_803;
 
 impl Order {
@@ -71,7 +72,7 @@ fn small<R: AllocGlobal + Print>(rt: &R) -> Result<()> {
     Ok(())
 }
 
-// Works a pattern, and counts the numbers that it did its work on.
+// Runs a pattern, and returns how many numbers it worked on.
 fn worked(alloc: Global, pattern: &str, order: Order, count: u32) -> Result<u64> {
     let mut later = filled(alloc, order, count)?;
     match pattern {
@@ -83,7 +84,7 @@ fn worked(alloc: Global, pattern: &str, order: Order, count: u32) -> Result<u64>
     }
 }
 
-// Puts a key in unless it waits, and says whether it was put in.
+// Puts a key in unless it waits, and returns whether it was put in.
 fn put_new(later: &mut Later, key: Key, due: u64) -> Result<bool> {
     if later.contains(key) {
         return Ok(false);
@@ -92,7 +93,7 @@ fn put_new(later: &mut Later, key: Key, due: u64) -> Result<bool> {
     Ok(true)
 }
 
-// The numbers below this one, each of which waits for the moment 60.
+// The numbers below this one, each of which waits for moment 60.
 fn filled(alloc: Global, order: Order, count: u32) -> Result<Later> {
     let mut later = Later::new(alloc);
     for turn in 0..count {

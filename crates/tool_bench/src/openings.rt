@@ -1,8 +1,8 @@
-// How the opening of a tape grows with its notes, and how many disk calls a flush makes.
+// How the time to open a tape grows with its notes, and how many disk calls a flush makes.
 //
-// `open NOTES TIMES` opens a tape of so many notes so many times, as flushes have left it, 51,200 notes to each; the
-// building of the tape is not in the time. `due NOTES TIMES` asks of such a tape so many times whether a rotation is
-// due; its building and opening is not in the time.
+// `open NOTES TIMES` opens a tape of this many notes this many times; flushes of 51,200 notes each have written it, and
+// the time is without that. `due NOTES TIMES` asks such a tape this many times whether a rotation is due; the time is
+// without the building and the opening of the tape.
 use crate::counted::CountedDisk;
 use crate::time::{number, tell};
 use anyhow::{Context, Result, bail};
@@ -61,7 +61,7 @@ fn asked<R: AllocGlobal + Print + Clock>(rt: &R, notes: u64, times: u64) -> Resu
     tell(rt, due, "due", start.elapsed(rt)?)
 }
 
-/// The note of this number: a token of 12 octets and a message-id of 20.
+/// The note of this number: its token has 12 octets, its message-id 20.
 pub fn owe(alloc: Global, number: u64) -> Result<Note> {
     let token = Token::read(alloc, b"default/0001")?.context("a token")?;
     let id = MsgId::read(alloc, b"<article@news.local>")?.context("a message-id")?;
@@ -72,7 +72,6 @@ pub fn owe(alloc: Global, number: u64) -> Result<Note> {
     })
 }
 
-// Owes so many debts, with a flush now and then.
 fn owe_all<D: Disk>(alloc: Global, tape: &mut Tape<D>, notes: u64) -> Result<()> {
     for number in 1..=notes {
         if let Err((_, fault)) = tape.note(owe(alloc, number)?) {
@@ -86,7 +85,7 @@ fn owe_all<D: Disk>(alloc: Global, tape: &mut Tape<D>, notes: u64) -> Result<()>
     Ok(())
 }
 
-// A disk with the tape of so many debts.
+// A disk with the tape of this many debts.
 fn disk_with(alloc: Global, notes: u64) -> Result<MemDisk> {
     let mut tape = open(alloc, MemDisk::new(alloc), MemDisk::new(alloc))?;
     owe_all(alloc, &mut tape, notes)?;
@@ -94,7 +93,7 @@ fn disk_with(alloc: Global, notes: u64) -> Result<MemDisk> {
     Ok(first)
 }
 
-/// The tape of these two disks.
+/// Opens the tape on these two disks.
 pub fn open<D: Disk + Drop>(alloc: Global, a: D, b: D) -> Result<Tape<D>> {
     match Tape::open(alloc, a, b) {
         Ok(tape) => Ok(tape),
@@ -102,7 +101,7 @@ pub fn open<D: Disk + Drop>(alloc: Global, a: D, b: D) -> Result<Tape<D>> {
     }
 }
 
-// Opens the tape on a disk and an empty one so many times, and gives how many were owed the last time.
+// Opens the tape on a disk and an empty one this many times, and returns how many debts were owed the last time.
 fn opened(alloc: Global, disk: MemDisk, times: u64) -> Result<u64> {
     let mut disks = (disk, MemDisk::new(alloc));
     let mut owed = 0;
@@ -115,7 +114,7 @@ fn opened(alloc: Global, disk: MemDisk, times: u64) -> Result<u64> {
     Ok(owed)
 }
 
-// How many disk calls that write, cut or sync an opening of two empty disks and a flush of so many notes make.
+// How many disk calls that write, cut or sync are made by an opening of two empty disks and a flush of this many notes.
 fn calls_of(alloc: Global, notes: u64) -> Result<u64> {
     let a = CountedDisk::new(MemDisk::new(alloc));
     let b = CountedDisk::new(MemDisk::new(alloc));

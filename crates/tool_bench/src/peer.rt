@@ -1,4 +1,4 @@
-// A streaming connection to a peer, and what that answers.
+// A streaming connection to a peer, and what the peer replies.
 use anyhow::{Context, Result, bail};
 use conn_core::{Conn, CxnId, Options};
 use funnel::{MsgId, Token};
@@ -8,10 +8,10 @@ use std::alloc::Global;
 /// How many articles are under way at once.
 pub const IN_FLIGHT: u64 = 20;
 
-/// The connection that they are sent by.
+/// The connection that sends them.
 pub const CONNECTION: CxnId = CxnId(1);
 
-/// A connection in streaming mode, whose checks stay on.
+/// A connection in streaming mode whose checks stay on.
 pub fn streaming(alloc: Global) -> Result<Conn> {
     let options = Options {
         streaming: true,
@@ -42,7 +42,7 @@ pub fn ids_of(alloc: Global) -> Result<Vec<MsgId>> {
     Ok(ids)
 }
 
-/// A reply of this code on each id.
+/// A reply with this code to each id.
 pub fn answers_of(alloc: Global, ids: &[MsgId], code: &[u8]) -> Result<Vec<u8>> {
     let mut answers = Vec::new(alloc);
     for id in ids {
@@ -62,7 +62,7 @@ pub fn offer(conn: &mut Conn, debt: Debt) -> Result<()> {
     Ok(())
 }
 
-/// All of the output counts as sent; how many octets it had.
+/// Counts all of the output as sent, and returns how many octets it had.
 pub fn drain(conn: &mut Conn) -> u64 {
     let octets = conn.output().len();
     conn.sent(octets);

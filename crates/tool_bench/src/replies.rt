@@ -1,6 +1,7 @@
-// How fast replies are read from pieces of 1,500 octets, beside a bare search for their line ends.
+// How fast replies are read from pieces of 1,500 octets, compared with a bare search for their line ends.
 //
-// `replies N` or `walk N` makes N replies, and reads them or walks their line ends; the time is that of this alone.
+// `replies N` or `walk N` makes N replies, and reads them or searches for their line ends; the time is that of this
+// alone.
 use crate::time::{number, tell};
 use anyhow::{Result, bail};
 use memchr::memchr_iter;
@@ -50,7 +51,7 @@ fn measured<R: AllocGlobal + Print + Clock>(rt: &R, work: &str, count: u64) -> R
     tell(rt, count, "replies", time)
 }
 
-// The replies to as many offers, half of them refused.
+// The replies to this many offers, half of them refusals.
 fn replies_of(alloc: Global, count: u64) -> Result<Vec<u8>, AllocError> {
     let mut octets = Vec::new(alloc);
     for k in 0..count {
@@ -70,7 +71,7 @@ fn read(alloc: Global, octets: &[u8]) -> Result<Totals> {
     Ok(totals)
 }
 
-// Feeds a piece, and reads the replies that are whole.
+// Feeds a piece, and reads the replies that are complete.
 fn read_piece(reader: &mut ReplyReader, piece: &[u8], totals: &mut Totals) -> Result<()> {
     reader.feed(piece)?;
     for _ in 0..u64::MAX {
@@ -83,7 +84,7 @@ fn read_piece(reader: &mut ReplyReader, piece: &[u8], totals: &mut Totals) -> Re
     Ok(())
 }
 
-// The line ends, and the sum of their places in the pieces.
+// How many line ends there are, and the sum of their places in the pieces.
 fn walk(octets: &[u8]) -> Totals {
     let mut totals = Totals { count: 0, codes: 0 };
     for piece in octets.chunks(PIECE) {

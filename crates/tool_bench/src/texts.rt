@@ -1,7 +1,7 @@
-// Articles to be sent.
+// Texts of articles.
 use std::alloc::{AllocError, Global};
 
-// Lines as an article has them, one of them with a dot first.
+// Lines such as articles have; one of them begins with a dot.
 const LINES: &[u8] = b"Path: news.example.org!feeder.example.net!peer.example.com!not-for-mail\n\
     There is no news like that which comes by the old road over the hill,\n\
     and a reader who waits for it at the gate will have it before nightfall.\n\

@@ -1,10 +1,10 @@
 // What a debt costs on its way from a funnel line to the note of its final answer.
 //
-// `way DIRECTORY COUNT` has so many debts of one peer, in whole batches of 256, go the whole way over a tape in two
-// files of this directory: each line of a batch is read and owed, and the batch flushed; each debt is claimed and
+// `way DIRECTORY COUNT` takes this many debts of one peer, in whole batches of 256, the whole way over a tape in two
+// files of this directory: each line of a batch is read and owed, and the batch is flushed; each debt is claimed and
 // offered, 16 at a time, to a connection whose peer wants and takes each article; each outcome is finished, and the
-// batch flushed again. `owed DIRECTORY COUNT` reads, owes and flushes as many, and ends where all are owed. What the
-// peer answers is made before the clock runs.
+// batch is flushed again. `owed DIRECTORY COUNT` reads, owes and flushes as many, and ends there. What the peer replies
+// is made before the clock runs.
 use crate::files::{disks_in, remove};
 use crate::peer::{CONNECTION, answers_of, drain, offer, streaming};
 use crate::texts::text_of;
@@ -28,10 +28,10 @@ const BATCH: u64 = 256;
 // How many of them are under way at once.
 const UNDER_WAY: u64 = 16;
 
-// An article has at most so many octets.
+// How many octets an article has at most.
 const OCTETS: usize = 1000;
 
-// A batch of lines, and what the peer answers to the debts of each round.
+// A batch of lines, and what the peer replies to the debts of each round.
 #[derive(Drop)]
 struct Feed {
     lines: Vec<String>,
@@ -39,7 +39,7 @@ struct Feed {
     text: Bytes,
 }
 
-// What the peer answers to as many debts as are under way.
+// What the peer replies to as many debts as are under way.
 #[derive(Drop)]
 struct Round {
     wanted: Vec<u8>,
@@ -105,7 +105,6 @@ fn feed_of(alloc: Global) -> Result<Feed> {
     })
 }
 
-// The ids of a batch.
 fn ids_of(alloc: Global) -> Result<Vec<MsgId>> {
     let mut ids = Vec::new(alloc);
     for place in 0..BATCH {
@@ -115,7 +114,6 @@ fn ids_of(alloc: Global) -> Result<Vec<MsgId>> {
     Ok(ids)
 }
 
-// A line of each id.
 fn lines_of(alloc: Global, ids: &[MsgId]) -> Result<Vec<String>> {
     let mut lines = Vec::new(alloc);
     for (place, id) in ids.iter().enumerate() {
@@ -136,7 +134,6 @@ fn rounds_of(alloc: Global, ids: &[MsgId]) -> Result<Vec<Round>> {
     Ok(rounds)
 }
 
-// A station over a new tape in this directory.
 fn station_in<R: AllocGlobal + Files<File = File>>(
     rt: &R,
     path: &str,
@@ -154,7 +151,7 @@ fn station_in<R: AllocGlobal + Files<File = File>>(
     }
 }
 
-// So many debts have gone the whole way.
+// Takes this many debts the whole way.
 fn gone<R: AllocGlobal + Files<File = File>>(
     rt: &R,
     path: &str,
@@ -184,7 +181,7 @@ fn send_batches(
     Ok(())
 }
 
-// So many debts are owed.
+// Owes this many debts, and ends there.
 fn left<R: AllocGlobal + Files<File = File>>(
     rt: &R,
     path: &str,
@@ -213,7 +210,8 @@ fn owe_batch(
     flush(station)
 }
 
-// proof: what the calls of the station ensure is left behind in each of these, so that its callers carry none of it.
+// proof: each of these is a function of its own, so that its callers' proofs don't carry what the station's calls
+// ensure.
 fn owe(
     alloc: Global,
     station: &mut Station<FileDisk<TapeFile>>,
@@ -225,7 +223,7 @@ fn owe(
     Ok(())
 }
 
-// Flushes a station, and writes its tape anew where that is due.
+// Flushes a station, and rotates its tape if that is due.
 fn flush(station: &mut Station<FileDisk<TapeFile>>) -> Result<()> {
     station.flush()?;
     if station.rotate_due() {
@@ -261,7 +259,7 @@ fn send_round(
     Ok(())
 }
 
-// Hands in the article that came to be wanted first.
+// Hands in the article that is wanted first.
 fn hand_in(conn: &mut Conn, text: Bytes) -> Result<()> {
     let key = conn.need().context("an article is wanted")?;
     if conn.article(key, Found::Article(text)).is_err() {

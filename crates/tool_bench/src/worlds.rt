@@ -1,10 +1,10 @@
-// How fast a world takes funnel lines, beside its stations alone, and how that stands with many peers.
+// How fast a world takes funnel lines, compared with its stations alone, and how that changes with many peers.
 //
-// `run COUNT` has a world of four peers take a script of so many lines, each of which names them all, with a flush
-// behind each 256; the time is that of the run alone, without the reading of the script and the making of the world.
-// `owe COUNT` owes the same lines at four stations, with as many flushes; the reading of the lines is not in the time.
-// `read COUNT` reads them and does no more. `named COUNT PEERS` has a world of so many peers take so many lines, each
-// of which names one of them in turn, with no flush.
+// `run COUNT` makes a world of four peers take a script of this many lines, each of which names all four, with a flush
+// after each 256; the time is that of the run alone, without reading the script and making the world. `owe COUNT` owes
+// the same lines at four stations, with as many flushes; the time is without reading the lines. `read COUNT` only reads
+// them. `named COUNT PEERS` makes a world of this many peers take this many lines, each of which names one of the
+// peers, in turn, with no flush.
 use crate::debts::{flush, opened};
 use crate::time::{number, tell};
 use anyhow::{Result, bail};
@@ -16,16 +16,16 @@ use std::alloc::Global;
 use std::time::{Clock, Duration, Instant};
 use world_core::{Report, Step, World, WorldFault};
 
-// How many peers each line names, but for `named`.
+// How many peers each line names, except for `named`.
 const PEERS: u64 = 4;
 
 // How many lines there are to a flush.
 const BATCH: u64 = 256;
 
-// What came of lines.
+// What came of the lines.
 #[derive(Clone, Copy)]
 struct Ran {
-    // How many steps told something.
+    // How many steps reported something.
     told: u64,
     // How many debts all peers are owed.
     owed: u64,
@@ -89,7 +89,6 @@ fn measured<R: AllocGlobal + Print + Clock>(rt: &R, work: &str, count: u64) -> R
     tell(rt, count, "lines", time)
 }
 
-// The line of this number: it names four peers.
 fn funnel_line(alloc: Global, number: u64) -> Result<String> {
     let line = format!(in alloc;
         "default/{number} <{number}.article@news.example.org> feed0.example feed1.example feed2.example feed3.example"
@@ -105,7 +104,7 @@ fn funnel_lines(alloc: Global, count: u64) -> Result<Vec<String>> {
     Ok(lines)
 }
 
-// A script of so many peers and no steps.
+// A script that declares this many peers and has no steps.
 fn declaring(alloc: Global, peers: u64) -> Result<Vec<u8>> {
     let mut text = Vec::new(alloc);
     for peer in 0..peers {
@@ -115,7 +114,7 @@ fn declaring(alloc: Global, peers: u64) -> Result<Vec<u8>> {
     Ok(text)
 }
 
-// A script of four peers and so many lines, which name them all.
+// A script of four peers and this many lines, each of which names all four.
 fn naming_all(alloc: Global, count: u64) -> Result<Vec<u8>> {
     let mut text = declaring(alloc, PEERS)?;
     for number in 0..count {
@@ -130,7 +129,7 @@ fn naming_all(alloc: Global, count: u64) -> Result<Vec<u8>> {
     Ok(text)
 }
 
-// A script of so many peers and so many lines, each of which names one of them, in turn.
+// A script of this many peers and this many lines, each of which names one of the peers, in turn.
 fn naming_one(alloc: Global, count: u64, peers: u64) -> Result<Vec<u8>> {
     let mut text = declaring(alloc, peers)?;
     for number in 0..count {
@@ -143,7 +142,7 @@ fn naming_one(alloc: Global, count: u64, peers: u64) -> Result<Vec<u8>> {
     Ok(text)
 }
 
-// What comes of a script; the time is that of its steps.
+// Runs a script; the time is that of its steps.
 fn taken<R: AllocGlobal + Clock>(rt: &R, text: &[u8]) -> Result<Ran> {
     let (mut world, steps) = world_of(rt.alloc(), text)?;
     let start = Instant::now(rt)?;
@@ -156,7 +155,7 @@ fn taken<R: AllocGlobal + Clock>(rt: &R, text: &[u8]) -> Result<Ran> {
     })
 }
 
-// The world in which a script is taken, and its steps.
+// The world that a script declares, and its steps.
 fn world_of(alloc: Global, text: &[u8]) -> Result<(World, Vec<Step>)> {
     let Script { peers, steps, .. } = read_script(alloc, text)?;
     match World::with_tapes(alloc, peers) {
@@ -165,7 +164,7 @@ fn world_of(alloc: Global, text: &[u8]) -> Result<(World, Vec<Step>)> {
     }
 }
 
-// proof: what `World::run` ensures is left behind here, so that its callers carry none of it.
+// proof: in a function of its own, so that its callers' proofs don't carry what `World::run` ensures.
 fn reported(world: &mut World, steps: &[Step]) -> Result<Report> {
     match world.run(steps) {
         Ok(report) => Ok(report),
@@ -203,7 +202,7 @@ fn read_each(alloc: Global, lines: &[String]) -> Result<Vec<FunnelLine>> {
     Ok(read)
 }
 
-// Owes so many lines at four stations; the time is that of the stations' calls.
+// Owes this many lines at four stations; the time is that of the stations' calls.
 fn owed_alone<R: AllocGlobal + Clock>(rt: &R, count: u64) -> Result<Ran> {
     let lines = read_each(rt.alloc(), &funnel_lines(rt.alloc(), count)?)?;
     let mut stations = Vec::new(rt.alloc());
@@ -220,7 +219,7 @@ fn owed_alone<R: AllocGlobal + Clock>(rt: &R, count: u64) -> Result<Ran> {
     })
 }
 
-// Owes each line at each station, with a flush behind each batch and at the end.
+// Owes each line at each station, with a flush after each batch and at the end.
 fn owe_all(stations: &mut [Station<MemDisk>], lines: &[FunnelLine]) -> Result<()> {
     let mut number = 0u64;
     for line in lines {

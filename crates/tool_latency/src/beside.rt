@@ -2,30 +2,30 @@
 use flusher::{Pace, Place, Who};
 use std::sync::atomic::{AtomicU64, Ordering};
 
-// How many peers there are, each of which is flushed once before the next receipt.
+// How many peers there are; each is flushed once before the next receipt.
 const PEERS: u64 = 2;
 
-/// Hears from the flusher when the flush of a peer's tape begins and when it has ended.
+/// Is called by the flusher when the flush of a peer's tape begins and when it has ended.
 #[derive(Drop)]
 pub struct Flushes {
-    // How often a flush began or ended.
+    // How many times a flush began or ended.
     turns: AtomicU64,
 }
 
 impl Flushes {
-    /// None has begun.
+    /// No flush has begun.
     pub fn new() -> Flushes {
         Flushes {
             turns: AtomicU64::new(0),
         }
     }
 
-    /// Whether the tape of a peer is being flushed at this moment.
+    /// Whether any peer's tape is being flushed at this moment.
     pub fn is_any(&self) -> bool {
         self.turns.load(Ordering::SeqCst) % 2 == 1
     }
 
-    /// Whether the tape of this peer is.
+    /// Whether this peer's tape is.
     pub fn is_of(&self, peer: usize) -> bool {
         let turns = self.turns.load(Ordering::SeqCst);
         turns % 2 == 1 && turns / 2 % PEERS == peer as u64

@@ -1,4 +1,4 @@
-// What is claimed and finished while tapes are flushed.
+// Workers that claim and finish debts while tapes are flushed.
 use crate::beside::Flushes;
 use crate::times::Times;
 use conn_core::{Conn, CxnId, Options, Outcome};
@@ -16,7 +16,7 @@ const REST_US: u64 = 100;
 
 const CONNECTION: CxnId = CxnId(1);
 
-// The peer whose debts are finished, and the one whose debts are on its tape alone.
+// The peer whose debts are finished, and the one whose debts are only on its tape.
 const FED: usize = 0;
 
 const WATCHED: usize = 1;
@@ -33,7 +33,7 @@ pub struct Feeder<'a, N: Naming> {
 }
 
 impl<'a, N: Naming> Feeder<'a, N> {
-    /// One whose connection has agreed to streaming.
+    /// A feeder whose connection has agreed to streaming.
     pub fn new(
         alloc: Global,
         share: FeederShare<N>,
@@ -59,7 +59,6 @@ impl<'a, N: Naming> Feeder<'a, N> {
         })
     }
 
-    // Claims a debt and finishes it, if there is one.
     fn feed<D: Disk, R: Wait + Clock>(
         &mut self,
         rt: &R,
@@ -83,7 +82,7 @@ impl<'a, N: Naming> Feeder<'a, N> {
         }
     }
 
-    // Finishes a debt: its peer does not want it.
+    // Finishes a debt, which its peer does not want.
     fn finish<D: Disk, R: Wait + Clock>(
         &mut self,
         rt: &R,
@@ -107,7 +106,8 @@ impl<'a, N: Naming> Feeder<'a, N> {
 
 // What becomes of a debt that a connection is handed, and that its peer does not want.
 //
-// proof: what the calls of a connection ensure is left behind here and below, so that `finish` carries none of it.
+// proof: here and below in functions of their own, so that the proof of `finish` doesn't carry what the connection's
+// calls ensure.
 fn refused(alloc: Global, conn: &mut Conn, debt: Debt) -> Result<Outcome, &'static str> {
     let reply = reply_on(alloc, &debt).map_err(|_| "out of memory")?;
     if conn.offer(debt).is_err() {
@@ -118,7 +118,6 @@ fn refused(alloc: Global, conn: &mut Conn, debt: Debt) -> Result<Outcome, &'stat
     conn.outcome().ok_or("no outcome")
 }
 
-// All that a connection has to send is sent.
 fn send_all(conn: &mut Conn) {
     let octets = conn.output().len();
     conn.sent(octets);
@@ -133,7 +132,7 @@ fn reply_on(alloc: Global, debt: &Debt) -> anyhow::Result<Vec<u8>> {
     Ok(reply)
 }
 
-/// Tries to claim debts of the second peer, whose texts are on its tape alone, and gives each back.
+/// Tries to claim debts of the second peer, whose texts are only on its tape, and gives each back.
 #[derive(Drop)]
 pub struct Watcher<'a, N: Naming> {
     pub share: FeederShare<N>,
@@ -145,7 +144,7 @@ pub struct Watcher<'a, N: Naming> {
 }
 
 impl<'a, N: Naming> Watcher<'a, N> {
-    /// One that has tried nothing.
+    /// A watcher that has tried nothing.
     pub fn new(alloc: Global, share: FeederShare<N>, flushes: &'a Flushes) -> Watcher<'a, N> {
         Watcher {
             share,
@@ -182,7 +181,7 @@ impl<'a, N: Naming> Watcher<'a, N> {
     }
 }
 
-/// One of the two.
+/// The job of a worker.
 #[derive(Drop)]
 pub enum Job<'a, N: Naming> {
     Feed(Feeder<'a, N>),
@@ -197,7 +196,7 @@ pub struct Worker<'a, N: Naming> {
 }
 
 impl<'a, N: Naming> Worker<'a, N> {
-    /// One that nothing has stopped.
+    /// A worker that nothing has stopped.
     pub fn new(job: Job<'a, N>) -> Worker<'a, N> {
         Worker { job, failure: None }
     }

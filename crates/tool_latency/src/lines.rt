@@ -13,16 +13,16 @@ use std::time::{Clock, Duration, Instant};
 // How long it waits between two lines, in microseconds.
 const LINE_WAIT_US: u64 = 100;
 
-// After so many lines a flush is ordered.
+// After how many lines a flush is ordered.
 const BATCH_LINES: u64 = 64;
 
-/// Takes lines of both peers until so many flushes have ended.
+/// Takes lines of both peers until this many flushes have ended.
 #[derive(Drop)]
 pub struct Intake<'a, N: Naming> {
     pub alloc: Global,
     pub share: IntakeShare<N>,
     pub flushes: &'a Flushes,
-    /// How many flushes are to end.
+    /// How many flushes have to end.
     pub count: u64,
     pub lines: Times,
     pub failure: Option<&'static str>,
@@ -56,7 +56,6 @@ impl<'a, N: Naming> Intake<'a, N> {
         Ok(())
     }
 
-    // Takes a line of both peers.
     fn take<D: Disk, R: Wait + Clock>(
         &mut self,
         rt: &R,

@@ -1,11 +1,11 @@
 //! How long the calls of a post take while tapes are flushed.
 //!
-//! May touch its arguments, the clock, threads and standard output, and the directory that it is given; it stands on
+//! May touch its arguments, the clock, threads and standard output, and the directory that it is given. It stands on
 //! the public calls of flusher. With no argument it runs once, over disks in memory, and prints what is the same on
-//! each run. `DIRECTORY FLUSHES` keeps a post over files of this directory at work until so many flushes have ended,
-//! and prints `COUNT CALL P nanoseconds` for each call, where P is the time that 99 of 100 such calls kept within that
-//! began while the peer's tape was flushed; `refused` are the calls of `try_claim` that were told `Busy`.
-//! bench/latency.sh prints ratios from it. Nothing stands above it, and it promises nothing.
+//! each run. `DIRECTORY FLUSHES` keeps a post over files of this directory at work until this many flushes have ended,
+//! and prints `COUNT CALL P nanoseconds` for each kind of call that began while the peer's tape was flushed: 99 of 100
+//! such calls took at most P. `refused` are the calls of `try_claim` that returned `Busy`. bench/latency.sh prints
+//! ratios from it. Nothing stands above it, and it promises nothing.
 #![tactic(auto)]
 
 ghost use Rattle.std.specs.Prelude.{◌≡◌, length};
@@ -39,10 +39,10 @@ use std::sync::Wait;
 use std::thread::Threads;
 use std::time::Clock;
 
-// The files of the tapes: of the peer whose debts are answered, of the other one, and of the intake.
+// The files of the tapes: of the peer whose debts are answered, of the other peer, and of the intake.
 const FILES: [[&str; 2]; 3] = [["p.a", "p.b"], ["q.a", "q.b"], ["intake.a", "intake.b"]];
 
-// How many debts the second peer is owed at first. Its front has the texts of the last 8,192 that were settled.
+// How many debts the second peer is owed at first. Its front has the texts of the last 8,192 debts that were settled.
 const OWED: u64 = 10_000;
 
 const UNLIMITED: Limits = Limits {
@@ -64,7 +64,6 @@ fn main(rt: HostRuntime) -> Result<()> {
     }
 }
 
-// One flush over disks in memory.
 fn in_memory<R: AllocGlobal + Print + Clock + Log + Threads + Wait + Sync>(rt: &R) -> Result<()> {
     let alloc = rt.alloc();
     let disks = || (MemDisk::new(alloc), MemDisk::new(alloc));
@@ -78,7 +77,6 @@ fn in_memory<R: AllocGlobal + Print + Clock + Log + Threads + Wait + Sync>(rt: &
     Ok(())
 }
 
-// So many flushes over files of this directory.
 fn in_files<R: AllocGlobal + Print + Clock + Log + Threads + Wait + Sync + Files<File = File>>(
     rt: &R,
     path: &str,
@@ -124,7 +122,7 @@ impl Measured {
     }
 }
 
-// Keeps a post over these disks at work until so many flushes have ended.
+// Keeps a post over these disks at work until this many flushes have ended.
 fn measure<D: Disk + Drop + Send, R: AllocGlobal + Clock + Log + Threads + Wait + Sync>(
     rt: &R,
     disks: Vec<(D, D)>,

@@ -6,13 +6,13 @@ use std::time::Duration;
 /// How long each call of one kind took that began while a tape was flushed, in nanoseconds.
 #[derive(Drop)]
 pub struct Times {
-    // How many calls there were, beside a flush or not.
+    // How many calls there were, whether or not they began during a flush.
     calls: u64,
     nanoseconds: Vec<u64>,
 }
 
 impl Times {
-    /// None were made.
+    /// No calls.
     pub fn new(alloc: Global) -> Times {
         Times {
             calls: 0,
@@ -20,7 +20,7 @@ impl Times {
         }
     }
 
-    /// One more took so long, and began beside a flush or not.
+    /// Adds a call that took this long, and that began during a flush or not.
     pub fn add(&mut self, time: Duration, beside: bool) -> Result<(), AllocError> {
         self.calls = self.calls.saturating_add(1);
         if beside {
@@ -30,12 +30,12 @@ impl Times {
         Ok(())
     }
 
-    /// Whether none were made.
+    /// Whether there were no calls.
     pub fn is_empty(&self) -> bool {
         self.calls == 0
     }
 
-    /// Prints how many began beside a flush, and the time that 99 of 100 of them kept within.
+    /// Prints how many began during a flush, and the time that 99 of 100 of them took at most.
     pub fn print<R: Print>(mut self, rt: &R, call: &str) -> Result<()> {
         self.nanoseconds.sort()?;
         let count = self.nanoseconds.len();

@@ -9,7 +9,7 @@ use Rattle.world_core.specs.Laws.{LinesAreAcknowledged}
 use Rattle.world_core.specs.Past.{Past}
 use Rattle.world_core.specs.Safe.{HasAcknowledged, IsAbove, IsSafe, KeepsLines}
 
--- one of a list of which all have P
+-- an element of a list, if P holds of all of them
 pub all_at : {A : Type 0} (P : A → Type 0) (xs : List A) (i : ℕ) (x : A) → AllByRecursion P xs
     → slice_get xs i ≡ Some x → P x
 all_at P [] i x all here = absurd cc

@@ -1,4 +1,4 @@
--- What was acknowledged stays so over any steps, taken or refused.
+-- What was acknowledged stays acknowledged over any steps, taken or refused.
 use Rattle.std.proofs.Common.{◌≡◌, ℕ, false, Some, List, refl}
 use Rattle.std.specs.List.{slice_get}
 use Rattle.world_core.specs.Past.{Past, PeerPast, TapePast, with_peer, with_tape}

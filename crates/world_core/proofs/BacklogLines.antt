@@ -13,11 +13,11 @@ use Rattle.funnel.specs.declared.line.LineFault.TheVariants.{NoMemory as NoLineM
 use Rattle.world_core.specs.Imports.{AreGood, Good, HasGood, Is_good, Is_malformed, None_read}
 use Rattle.world_core.specs.Importing.{Gains}
 
--- what is kept of a line that is not too long is all of it
+-- a line that is not too long is kept whole
 whole_kept : (line : List ℕ) → length line ≤ longest_line → clipped line ≡ line
 whole_kept line short = take_all (longest_line + 1) line (omega (arith, short))
 
--- and of any other so much that it is too long still
+-- of any other, enough is kept to be still too long
 long_kept : (line : List ℕ) → longest_line < length line → longest_line < length (clipped line)
 long_kept line long =
     let is : length (clipped line) ≡ longest_line + 1 =
@@ -31,7 +31,7 @@ fault_kept line BadToken has = subst (λ (l : List ℕ). HasFault l BadToken) (s
 fault_kept line BadId has = subst (λ (l : List ℕ). HasFault l BadId) (sym (whole_kept line has.0)) has
 fault_kept line NoLineMemory has = tt
 
--- these lines stand first in the text, and so many of them are good
+-- these lines come first in the text, and these of them are good
 pub record HasListed (text rest : List ℕ) (number : ℕ) (good : List Good) : Type 0 where
   pub lines : List (List ℕ)
   pub whole : text ≡ ended lines ++ rest
@@ -72,7 +72,7 @@ listed_more text rest line behind number next old new has begins raised gains =
       counted = raised ∙ ap (λ (n : ℕ). n + 1) c ∙ sym (length_push has.lines line);
     }
 
--- nothing but a rest is left
+-- nothing is left but a rest without LF
 pub listed_all : (text rest : List ℕ) (number : ℕ) (good : List Good) → HasListed text rest number good
     → IsUnended rest → HasGood text good
 listed_all text rest number good has last = record {

@@ -22,7 +22,7 @@ says_none true (Some reason) e = cc
 says_none false None e = cc
 says_none false (Some reason) e = refl
 
--- it tells that it is open exactly if it is by the world's transcript
+-- it reports that it is open exactly if it is open by the world's transcript
 pub open_said : (conf : PeerConf) (conn : ConnPast) (c : Connection) (none : Bool) (outputs : Option Reason)
     → HoldsTranscript conf conn c
     → ((o : Options) (unread : List ℕ) (h : List Event) → ConnStands o c.conn unread h → outputs ≡ reason o h)
@@ -42,7 +42,7 @@ module _ {D : Type 0} {g : Ghosts D} where
       (goes_outside (options_of past.conf) conn.transcript Broke tt)
       (breaks (options_of past.conf) conn.unread conn.transcript pair.holds) waits rank same_id
 
-  -- this moment was reported to it
+  -- the moment is set
   pub pair_ticked : (id now : ℕ) (conn : ConnPast) (past : PeerPast) (old new : Connection) (peer : Peer D g)
       → PairStands id conn past old peer
       → ((o : Options) (unread : List ℕ) (h : List Event) → ConnStands o old.conn unread h

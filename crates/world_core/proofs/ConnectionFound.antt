@@ -48,7 +48,7 @@ at_most Less = omega arith
 at_most Equal = omega arith
 at_most Greater = omega arith
 
--- what comes later is not less
+-- what comes later does not compare as less
 cmp_up : (id a b : ℕ) → a ≤ b → ordering_index (nat_cmp a id) ≤ ordering_index (nat_cmp b id)
 cmp_up id a b le = elim (cmp_is a id) [
   | inl less ↦ omega (arith, ap ordering_index less.1)
@@ -110,7 +110,7 @@ none_of_all id [] none = tt
 none_of_all id (c ∷ cs) none =
     (none 0 c (omega arith), none_of_all id cs (λ k d within. none (suc k) d (omega (arith, within))))
 
--- what the search answers
+-- what the search returns
 pub search_some : (id : ℕ) (cs : List Connection) (r : Result ℕ ℕ) (o : Option ℕ) → o ≡ result_ok r
     → IsSearchInRange r (length cs)
     → IsBinarySearchResult (λ (c : Connection). nat_cmp c.conn.id.0 id) cs r
@@ -148,7 +148,7 @@ search_none id cs (Err index) o is parts rising =
       | inr more ↦ inr (point.1 k d more within)
     ]
 
--- what stands there has its own number
+-- each entry is found by its own number
 pub own_id : (cs : List Connection) (index : ℕ) (c : Connection) → slice_get cs index ≡ Some c
     → (x : Connection) → slice_get cs index ≡ Some x → x.conn.id.0 ≡ c.conn.id.0
 own_id cs index c there x here =
@@ -180,7 +180,7 @@ module _ {D : Type 0} {g : Ghosts D} where
   rising_there life stations cs running =
       subst IsStrictlyIncreasing (sym (numbers_are life.past.peers life.conns cs running.conns)) running.tied.rising
 
-  -- none has the number
+  -- no connection has the number
   pub found_not : (life : Life) (stations : Stations D g) (cs : List Connection) (id : ℕ) → AreRunning life stations cs
       → AllByRecursion (λ (c : Connection). c.conn.id.0 ≢ id) cs → FoundConn life id None
   found_not life stations cs id running none = none_at life.past.peers id life.conns cs running.conns none

@@ -55,7 +55,7 @@ pub numbers_below : (n : ℕ) (conns : List Entry) → AllByRecursion (λ (entry
 numbers_below n [] all = tt
 numbers_below n (e ∷ conns) all = (omega (arith, all.0), numbers_below n conns all.1)
 
--- ---- one connection more
+-- ---- one more connection
 
 prefix_step : (b : Bool) (e : Entry) (found more : Option ConnPast) (k : ConnPast) → (found ≡ Some k → more ≡ Some k)
     → cond b (Some e.1) found ≡ Some k → cond b (Some e.1) more ≡ Some k
@@ -78,14 +78,14 @@ one_step : (b : Bool) (new k : ConnPast) → cond b (Some new) None ≡ Some k �
 one_step true new k is = let same : Some new ≡ Some k = is in cc
 one_step false new k is = let never : None ≡ Some k = is in cc
 
--- what is found was there, or is the new one
+-- what is found was there before, or is the new one
 pub at_last : (conns : List Entry) (new : Entry) (id : ℕ) (k : ConnPast) → conn_at (conns ++ new ∷ []) id ≡ Some k
     → (conn_at conns id ≡ Some k) ⊎ (k ≡ new.1)
 at_last [] new id k is = inr (one_step (new.0 == id) new.1 k is)
 at_last (e ∷ conns) new id k is =
     last_step (e.0 == id) e (conn_at conns id) (conn_at (conns ++ new ∷ []) id) new.1 k (at_last conns new id k) is
 
--- a connection at its start has no number
+-- a new connection has no numbers
 numbers_none : (options : Options) (rank : ℕ) → numbers_at options (fresh_conn rank) ≡ []
 unfolding story
 numbers_none options rank = refl
@@ -188,7 +188,7 @@ module _ {D : Type 0} {g : Ghosts D} (name : List ℕ) (life : Life) (old : Stat
       now = refl;
     }
 
-  -- ---- it was refused
+  -- ---- the connection was refused
 
   refused_so : (fault : Fault) (new_cs : List Connection) → new_cs ≡ cs → RefusesConnect name life fault life
       → RefusedOn (RefusesConnect name) life fault old new_cs

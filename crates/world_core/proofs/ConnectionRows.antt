@@ -1,4 +1,4 @@
--- Worked steps on connections, computed: what goes out, what becomes of debts, and what each step tells. And a run.
+-- Worked steps on connections, computed: what goes out, what becomes of debts, and what each step reports. And a run.
 use Rattle.std.proofs.Common.{◌≡◌, ℕ, true, false, None, Some, List, [], ◌∷◌, ◌++◌, refl, inl, inr, arith}
 use Rattle.std.specs.Prelude.{codes}
 use Rattle.disk_model.specs.declared.choice.Choice.{Choice}
@@ -44,11 +44,11 @@ options = record {
 abbrev limits : Limits
 limits = record { backlog_limit = 0; backlog_high = 0; drop_deferred = false }
 
--- a connection of which none of the outcomes has gone to its peer
+-- a connection none of whose outcomes has gone to its peer
 abbrev cxn : List Happening → ConnPast
 cxn h = record { rank = 2; unread = []; transcript = h; settled = 0 }
 
--- what is reported of it, if its transcript was the first before the step, and is the second
+-- what is reported of it, if its transcript was the first before the step and is the second after it
 abbrev outputs : List Happening → List Happening → List Said
 outputs was h = exchange_said limits options 1 60 was (cxn h)
 
@@ -65,7 +65,7 @@ line code = Came (record { code = code; id = None; text = [] })
 abbrev about : ℕ → Happening
 about code = Came (record { code = code; id = Some (codes "<x@y>"); text = codes "<x@y>" })
 
--- the greeting came, and what goes out of it counts as sent; then streaming was granted
+-- the greeting came, and the answer to it counts as sent; then streaming was granted
 abbrev greeted : List Happening
 greeted = outside options [] (line 200)
 
@@ -88,7 +88,7 @@ offer_tells : outputs streaming offered ≡ SentLine 1 (codes "CHECK <x@y>") ∷
 unfolding after story
 offer_tells = refl
 
--- the peer wants the article, which is given: the command and its lines go out
+-- the peer wants the article, which is handed in: the command and its lines go out
 abbrev checked : List Happening
 checked = sent offered
 
@@ -111,7 +111,7 @@ article_tells : outputs wanted given ≡ SentLine 1 (codes "TAKETHIS <x@y>") ∷
 unfolding after story
 article_tells = refl
 
--- or there is none, and the debt is lost
+-- or there is no article, and the debt is dropped
 lost_tells : outputs wanted (after options wanted (HandedIn 7 Gone)) ≡ Settled 1 7 (Dropped Missing) ∷ []
 unfolding after story
 lost_tells = refl
@@ -129,7 +129,7 @@ answer_tells : outputs (sent given) answered ≡ Settled 1 7 (Answered TakethisR
 unfolding after story
 answer_tells = refl
 
--- If it is refused, it waits, as the first to be settled still, after a tick, too; once it is settled there is none.
+-- An outcome that is refused waits, and is the next to be settled, also after a tick; once it is settled none waits.
 waits_on : outputs answered (outside options (waiting (cxn answered)).transcript (Tick 61))
     ≡ Settled 1 7 (Answered TakethisReceived) ∷ []
 unfolding after story
@@ -139,7 +139,7 @@ none_waits : unsettled options (settled_out options (cxn answered)) ≡ []
 unfolding after story
 none_waits = refl
 
--- the peer defers it: it waits, or is dropped where deferred debts are
+-- the peer defers it: it waits, or is dropped if the settings drop deferred debts
 defer_tells : outputs checked (outside options checked (about 431)) ≡ Settled 1 7 (Later 120) ∷ []
 unfolding after story
 defer_tells = refl
@@ -149,7 +149,8 @@ drop_tells : exchange_said (record limits { drop_deferred = true }) options 1 60
 unfolding after story
 drop_tells = refl
 
--- the server ends the connection, or it breaks, or no answer comes: the debt comes back, and why it closed is reported
+-- the server ends the connection, or it breaks, or no answer comes: the debt is ready again, and the reason of the
+-- close is reported
 end_tells : outputs checked (outside options checked (line 400)) ≡ Settled 1 7 Ready ∷ Closed 1 (Ended 400) ∷ []
 unfolding after story
 end_tells = refl
@@ -163,7 +164,7 @@ timeout_tells : outputs checked (outside options (outside options checked (Tick 
 unfolding after story
 timeout_tells = refl
 
--- once closed, it tells no more
+-- once closed, it reports no more
 abbrev closed : ConnPast
 closed = followed_up options (cxn (outside options checked Broke))
 
@@ -189,7 +190,7 @@ module _ (conf : PeerConf) (choice : Choice) where
   abbrev life : Life
   life = record { past = past; conns = []; connected = 3; now = 60; armed = None; running = true }
 
-  -- a connection has the number behind the last one that was made, and an empty transcript
+  -- a connection has the number after the last one that was made, and an empty transcript
   connect_takes : TakesConnect (codes "p") life (Connected 4 (codes "p") ∷ []) (record life {
     conns = (4, fresh_conn 0) ∷ [];
     connected = 4;

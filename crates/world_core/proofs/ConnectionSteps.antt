@@ -1,4 +1,5 @@
--- The steps on one connection of a world: what they make of it and its peer, put back, is what they make of the world.
+-- The steps on one connection of a world: what they make of the connection and its peer, once these are put back, is
+-- what they make of the world.
 use Rattle.std.proofs.Common.{◌≡◌, ℕ, ◌<◌, ◌≤◌, Some, List, [], ◌∷◌, length, get_or, refl, sym}
 use Rattle.std.proofs.Common.{ap, ◌∙◌, subst, inl, inr}
 use Rattle.std.specs.Prelude.{slice_get}
@@ -113,11 +114,11 @@ module _ {D : Type 0} {g : Ghosts D} where
           put.here;
     }
 
-    -- the life where the peer is in its own rank
+    -- the peer in its own place changes nothing
     same_life : with_past life (with_peer life.past conn.rank peer) ≡ life
     same_life = ap (λ (p : Past). with_past life p) (with_same life.past conn.rank peer put.here)
 
-    -- put back, they stand for this
+    -- the life with these put back
     abbrev put_life : ConnPast → PeerPast → Life
     put_life later_conn later = with_conn (with_past life (with_peer life.past conn.rank later)) id later_conn
 
@@ -149,7 +150,7 @@ module _ {D : Type 0} {g : Ghosts D} where
           (safe_of old life.past running.stands) keeps m at fault later_conn later is in
           (so.0, back later_conn later pair so.1 (so.2 ∙ at))
 
-    -- ---- where the peer is as it was
+    -- ---- the peer is as it was
 
     module _ (m : ConnPast) (at : m.rank ≡ conn.rank) where
       made_here : (T : Life → List Said → Life → Type 0) (h : List Happening) (before outputs : List Output)
@@ -186,7 +187,7 @@ module _ {D : Type 0} {g : Ghosts D} where
             now = refl;
           }
 
-    -- where the connection is as it was
+    -- the connection is as it was
     same_conn : (later : PeerPast) → put_life conn later ≡ with_past life (with_peer life.past conn.rank later)
     same_conn later =
         ap (λ conns. record (with_past life (with_peer life.past conn.rank later)) { conns = conns })
@@ -269,7 +270,7 @@ module _ {D : Type 0} {g : Ghosts D} where
           now = refl;
         }
 
-    -- of the connection nothing has changed, and of the peer so much
+    -- the connection is as it was, and the peer has changed like this
     stays_on : (later_conn : ConnPast) (later : PeerPast) → later_conn ≡ conn
         → PairStands id later_conn later new_c now → PeerKeeps id peer later
         → AreRunning (with_past life (with_peer life.past conn.rank later)) new new_cs
@@ -358,7 +359,7 @@ module _ {D : Type 0} {g : Ghosts D} where
         not_here (broken_off peer conn) refl (RefusesAct id (FailsToBreak id)) fault
         (λ later follows. inr (conn, peer, is_conn, follows)) is
 
-    -- ---- the moment is reported
+    -- ---- the moment is set
 
     pub ticked_one : (before outputs : List Output)
         → Followed id moment conn.transcript (ticked moment peer conn) peer before new_c now outputs
@@ -445,7 +446,7 @@ module _ {D : Type 0} {g : Ghosts D} where
           follows = follows;
         }) is.followed
 
-    -- all is as it was
+    -- nothing has changed
     stays_here : PairStands id conn peer new_c now → AreRunning life new new_cs
     stays_here pair = subst (λ (l : Life). AreRunning l new new_cs) same_both
         (back conn peer pair (keeps_same id peer) refl)

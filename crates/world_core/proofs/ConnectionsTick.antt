@@ -1,4 +1,4 @@
--- Connections that are told a moment one after another.
+-- Connections whose moment is set, one after another.
 use Rattle.std.proofs.Common.{◌≡◌, ℕ, ◌+◌, List, [], ◌++◌, length, refl, ◌∙◌}
 use Rattle.disk_model.specs.declared.Disk.{Ghosts}
 use Rattle.world_core.specs.Past.{Life}
@@ -13,12 +13,12 @@ use Rattle.world_core.proofs.OutputLines.{tells_both, tells_none}
 use Rattle.world_core.proofs.RelatedLists.{zip_length}
 
 module _ {D : Type 0} {g : Ghosts D} where
-  -- there is a connection for each of the world's
+  -- there are as many connections as the world has
   pub count_conns : (life : Life) (stations : Stations D g) (cs : List Connection) → AreRunning life stations cs
       → length life.conns ≡ length cs
   count_conns life stations cs running = zip_length (ConnectionStands life.past.peers) life.conns cs running.conns
 
-  -- none was told it
+  -- the moment of none was set
   pub ticks_none : (life : Life) (stations : Stations D g) (cs : List Connection) (outputs : List Output)
       → AreRunning life stations cs
       → MadeOn (TicksSome 0) life.connected life outputs outputs stations cs
@@ -35,7 +35,7 @@ module _ {D : Type 0} {g : Ghosts D} where
 
   module _ (life : Life) (before mid_outputs : List Output) (mid : Stations D g) (mid_cs : List Connection) (count : ℕ)
       (prefix : MadeOn (TicksSome count) life.connected life before mid_outputs mid mid_cs) where
-    -- one more was
+    -- the moment of one more was set
     pub ticks_more : (outputs : List Output) (new : Stations D g) (new_cs : List Connection)
         → MadeOn (TicksOne count) prefix.later.connected prefix.later mid_outputs outputs new new_cs
         → MadeOn (TicksSome (count + 1)) life.connected life before outputs new new_cs
@@ -51,7 +51,7 @@ module _ {D : Type 0} {g : Ghosts D} where
       now = one.now ∙ prefix.now;
     }
 
-    -- or was refused
+    -- or the next was refused
     pub ticks_not : (fault : Fault) (new : Stations D g) (new_cs : List Connection)
         → RefusedOn (TicksOneNot count) prefix.later fault new new_cs → RefusedOn TicksNot life fault new new_cs
     ticks_not fault new new_cs not = record {

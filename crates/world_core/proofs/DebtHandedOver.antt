@@ -69,7 +69,7 @@ module _ {D : Type 0} {g : Ghosts D} where
     abbrev tape_now : TapePast
     tape_now = read_now past.tape (tape_of new.station)
 
-    -- it was read
+    -- the peer's tape was read
     read_peer : places_of new.station ≡ places_of old.station → PeerStands (with_tape past tape_now) new
     read_peer places = record {
       conf = conf ∙ stands.conf;
@@ -79,7 +79,7 @@ module _ {D : Type 0} {g : Ghosts D} where
       parted = parts ∙ stands.parted;
     }
 
-    -- and a number is held now
+    -- and the connection now holds a number
     claimed_stands : (id n : ℕ) → places_of new.station ≡ moved (places_of old.station) n (Held id)
         → PeerStands (claimed_peer id n tape_now past) new
     claimed_stands id n places = record {
@@ -90,7 +90,7 @@ module _ {D : Type 0} {g : Ghosts D} where
       parted = parts ∙ stands.parted;
     }
 
-  -- ---- a claim that is refused, and one of nothing
+  -- ---- a claim that is refused, and one that finds no candidate
 
   module _ (id now : ℕ) (conn : ConnPast) (past : PeerPast) (connection : Connection) (old new : Peer D g)
       (pair : PairStands id conn past connection old) (reads : IsRead old.station new.station)
@@ -99,7 +99,7 @@ module _ {D : Type 0} {g : Ghosts D} where
     abbrev tape_read : TapePast
     tape_read = tape_now past old new pair.stands reads conf parts
 
-    -- the connection and the peer whose tape was read
+    -- the connection, and the peer whose tape was read
     pair_read : places_of new.station ≡ places_of old.station
         → PairStands id conn (with_tape past tape_read) connection new
     pair_read places = record {
@@ -217,12 +217,12 @@ module _ {D : Type 0} {g : Ghosts D} where
           let was = unheld_there (place_at past.places debt.0) is_unheld in
           moved_here past.places debt.0 (Held id) was.0 was.1
 
-      -- as the station has it
+      -- the station has it held by the connection
       pub held_there : IsHeldBy (places_of new.station) cxn debt.0
       held_there = subst (λ (p : Places). IsHeldBy p cxn debt.0) (sym peer_claimed.places)
           (subst (λ (c : ℕ). IsHeldBy claimed.places c debt.0) (sym own) held_now)
 
-      -- the connection took it
+      -- the connection took the debt
       pub took_over : (number : ℕ) → number ≡ debt.0 → (new_c : Connection)
           → ready_of (options_of past.conf) conn.transcript ≡ Yes
           → ((o : Options) (unread : List ℕ) (h : List Happening) → ConnStands o connection.conn unread h
@@ -254,7 +254,7 @@ module _ {D : Type 0} {g : Ghosts D} where
             };
           }
 
-      -- it is given back
+      -- the debt is given back
       module _ (last : Peer D g) (same_tape : IsSameTape new.station last.station)
           (back : places_of last.station ≡ moved (places_of new.station) debt.0 Ready)
           (same_conf : last.conf ≡ new.conf)
@@ -341,7 +341,7 @@ module _ {D : Type 0} {g : Ghosts D} where
         gave_back_memory outputs e ready =
             record { later = returned; why = inr (e, ready, (debt, gives_back)); stand = pair_back }
 
--- what is reported of none, and of one
+-- what is reported if there is none, and if there is one
 pub if_none : {A : Type 0} (o : Option A) (P : Type 0) → IfNone o P → ((x : A) → o ≡ Some x → ⊥) → P
 if_none None P is never = is
 if_none (Some x) P is never = absurd (never x refl)
@@ -352,7 +352,7 @@ some_at x P is = is
 pub if_some : {A : Type 0} (o : Option A) (x : A) (P : A → Type 0) → o ≡ Some x → IfSome o P → P x
 if_some o x P is tells = some_at x P (subst (λ p. IfSome p P) is tells)
 
--- ---- what follows it
+-- ---- what follows the offer
 
 module _ (id now : ℕ) (conn : ConnPast) (past : PeerPast) where
   hands_conf : (handed : Handover) (transcript : List Happening) (later : PeerPast)
@@ -381,7 +381,7 @@ module _ {D : Type 0} {g : Ghosts D} (id now : ℕ) (conn : ConnPast) (past : Pe
 
   module _ (handed : Handover) (mid_c : Connection) (mid_peer : Peer D g)
       (over : HandedOver id now conn past handed mid_c mid_peer) where
-    -- it was open before exactly where it was
+    -- it was open before exactly if the transcript says so
     pub open_over : (c : Connection) (none : Bool) (closed : Option Reason) → HoldsTranscript past.conf conn c
         → ((o : Options) (unread : List ℕ) (h : List Happening) → ConnStands o c.conn unread h → closed ≡ reason o h)
         → is_some closed ≡ not none → none ≡ is_none (reason (options_of over.later.conf) conn.transcript)

@@ -1,4 +1,4 @@
--- A debt more, in its place by its key: which places there are then.
+-- The places of a peer's debts once one more debt has a place, by its key.
 use Rattle.std.proofs.Common.{◌≡◌, ℕ, suc, Bool, false, cond, Option, None, Some, List, [], ◌∷◌, refl}
 use Rattle.std.proofs.Common.{sym, ap, ◌∙◌, subst, arith}
 use Rattle.std.specs.Prelude.{◌==◌}
@@ -33,7 +33,7 @@ other_step Equal key m place e p is apart rest =
 other_step Greater key m place e p is apart rest =
     ap (λ (o : Option DebtPlace). cond (e.0 == m) (Some e.1) o) rest
 
--- each other key keeps its place
+-- any other key keeps its place
 pub with_other : (p : Places) (key m : ℕ) (place : DebtPlace) → (m ≡ key → ⊥)
     → place_at (with_place p key place) m ≡ place_at p m
 with_other [] key m place apart =
@@ -51,7 +51,7 @@ here_step Greater key place e p is rest =
     ap (λ (b : Bool). cond b (Some e.1) (place_at (with_place p key place) key))
     (ne_eqb e.0 key (above_apart key e.0 is)) ∙ rest
 
--- and this one has its own
+-- the new key has its place
 pub with_here : (p : Places) (key : ℕ) (place : DebtPlace) → place_at (with_place p key place) key ≡ Some place
 with_here [] key place = ap (λ (b : Bool). cond b (Some place) None) (eq-eqb key key refl)
 with_here (e ∷ p) key place = here_step (nat_cmp key e.0) key place e p refl (with_here p key place)
@@ -62,7 +62,7 @@ none_at (e ∷ p) key apart =
     ap (λ (b : Bool). cond b (Some e.1) (place_at p key)) (ne_eqb e.0 key (λ same. apart 0 0 (omega arith) (sym same)))
     ∙ none_at p key (λ k d within. apart (suc k) d (omega (arith, within)))
 
--- what is none of the keys that are owed has no place
+-- a key that is not owed has no place
 pub no_place : (p : Places) (key : ℕ) (keys : List ℕ) → placed p ≡ keys → All (λ k. key ≡ k → ⊥) keys
     → place_at p key ≡ None
 no_place p key keys are apart = none_at p key (subst (All (λ k. key ≡ k → ⊥)) (sym are) apart)

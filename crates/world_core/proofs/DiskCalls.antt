@@ -1,4 +1,5 @@
--- A step calls disks at its events alone: so it is of what has happened to them when it ends.
+-- A step calls disks only at its events: whatever has happened to them when it ends had happened before it, or by the
+-- end of one of its events.
 use Rattle.std.proofs.Common.{◌≡◌, ◌⊎◌, ◌+◌, ◌++◌, ℕ, zero, suc, Bool, true, false, Option, Some, List, [], ◌∷◌}
 use Rattle.std.proofs.Common.{length, take, map, refl, sym, ap, ◌∙◌, subst, inl, inr}
 use Rattle.std.specs.Prelude.{if◌then◌else◌}
@@ -43,7 +44,7 @@ use Rattle.world_core.proofs.MarksAndNotes.{first_all, prefix_all, last_all, map
 
 -- ---- lists
 
--- what f makes of the one that stands there
+-- f of a list's element
 map_get : {A B : Type 0} (f : A → B) (xs : List A) (i : ℕ) (x : A) → slice_get xs i ≡ Some x
     → slice_get (map f xs) i ≡ Some (f x)
 map_get f [] i x here = absurd cc
@@ -56,7 +57,7 @@ get_map f [] i y here = absurd cc
 get_map f (x ∷ xs) zero y here = (x, refl, cc)
 get_map f (x ∷ xs) (suc i) y here = get_map f xs i y here
 
--- the last of some of a list, and those before it
+-- the last of a prefix of a list, and those before it
 last_of : {A : Type 0} (xs : List A) (x : A) (n : ℕ) (all : List A) → xs ++ x ∷ [] ≡ take n all
     → (take (length xs) all ≡ xs) × (slice_get all (length xs) ≡ Some x)
 last_of xs x zero all is = absurd (not_none xs x is)
@@ -205,7 +206,7 @@ reading_quiet (NotGood fault) past later outputs (said, changed) = ap logs chang
 -- ---- a step
 
 module _ (step : Step) (life : Life) where
-  -- what has happened to the disks of these tapes had happened before the step, or at the end of an event of it
+  -- what has happened to the disks of these tapes had happened before the step, or by the end of one of its events
   abbrev AtEvents : Past → Type 0
   AtEvents past = (rank : ℕ) (log : Log) → HasLog past rank log → HadLog step life rank log
 
@@ -294,7 +295,7 @@ module _ (step : Step) (life : Life) where
   stopped manner under_way later changed at =
       subst (λ (l : Life). AtEnd l.past) (sym changed) (at_left manner under_way at)
 
--- the events of a step that an armed stop is met in are those that it may make
+-- the events of a step in which an armed stop is met are events that the step may make
 may_of : (step : Step) (life : Life) (begun : Past) (events : List Event) → CallsDisks step life begun events
     → MayMake step life begun events
 may_of (Rotate name) life begun events (runs, is, (rank, here, its)) = (runs, is, (rank, 0, here, its))
@@ -399,7 +400,7 @@ line_at text life past fault (inr (inr (fits, (token, id, named, reads, fails)))
     at_same (Line text) life life.past past
     (fails_quiet life.past past _ fault (owes_quiet 0 token id named life.past.peers) fails) (at_first (Line text) life)
 
--- one event at a peer by its name
+-- one event, at a peer given by its name
 named_at : (step : Step) (life : Life) (name : List ℕ) (Why : ℕ → Type 0) (past : Past) (fault : Fault)
     → ((rank : ℕ) → rank_of life.past name ≡ Some rank → Why rank → AtEvents step life past)
     → RefusesNamed name life.past Why fault past → AtEvents step life past

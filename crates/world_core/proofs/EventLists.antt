@@ -1,4 +1,4 @@
--- Events one after another, and the next that is refused.
+-- Events one after another, up to one that is refused.
 use Rattle.std.proofs.Common.{◌≡◌, ℕ, zero, suc, ◌+◌, ◌<◌, ◌≤◌, Some, List, [], ◌∷◌, ◌++◌, length, take, refl, sym, ap}
 use Rattle.std.proofs.Common.{◌∙◌, subst, inl, inr, arith, append_assoc, append-nil, add-one}
 use Rattle.std.proofs.lemmas.Bool.{cases_lt}
@@ -48,7 +48,6 @@ take_right (x ∷ xs) ys k =
 
 -- ---- chains
 
--- two chains, one after the other
 pub all_then : (begun mid later : Past) (events next : List Event) → AllDo begun events mid → AllDo mid next later
     → AllDo begun (events ++ next) later
 all_then begun mid _ events _ first Start =
@@ -57,11 +56,11 @@ all_then begun mid _ events _ first (Next more event past later does one safe) =
     subst (λ (es : List Event). AllDo begun es later) (append_assoc events more (event ∷ []))
     (Next (events ++ more) event past later (all_then begun mid past events more first does) one safe)
 
--- one event
+-- a list of one event
 pub all_one : (past later : Past) (event : Event) → Does event past later → IsSafe later → AllDo past (event ∷ []) later
 all_one past later event does safe = Next [] event past later Start does safe
 
--- events behind those among which one was refused
+-- a list in which an event was refused, with more events after it
 abbrev pub fails_before : (begun later : Past) (events next : List Event) (fault : Fault)
     → Fails begun events fault later
     → Fails begun (events ++ next) fault later
@@ -78,7 +77,7 @@ fails_before begun later events next fault fails =
       safe = fails.safe;
     }
 
--- events before those among which one was refused
+-- a list in which an event was refused, with more events before it
 abbrev pub fails_behind : (begun mid later : Past) (events next : List Event) (fault : Fault) → AllDo begun events mid
     → Fails mid next fault later
     → Fails begun (events ++ next) fault later
@@ -93,7 +92,6 @@ fails_behind begun mid later events next fault does fails = record {
   safe = fails.safe;
 }
 
--- the only event was refused
 abbrev pub fails_one : (past later : Past) (event : Event) (fault : Fault) → Refuses event past fault later
     → IsSafe later → Fails past (event ∷ []) fault later
 fails_one past later event fault refuses safe =
@@ -115,7 +113,7 @@ module _ {D : Type 0} {g : Ghosts D} where
         stands = one.stands;
       }
 
-  -- one event more
+  -- one more event
   abbrev pub did_more : (past : Past) (events all : List Event) (event : Event) (old new : Stations D g)
       → all ≡ events ++ event ∷ []
       → (did : Did past events old) → DidOne did.later event new → Did past all new
@@ -146,7 +144,7 @@ module _ {D : Type 0} {g : Ghosts D} where
     stands = one.stands;
   }
 
-  -- the event behind these was refused
+  -- the event after these was refused
   abbrev pub failed_next :
       (past : Past) (events : List Event) (event : Event) (behind : List Event) (fault : Fault) (old new : Stations D g)
       → (did : Did past events old) → FailedOne did.later event fault new
@@ -182,7 +180,7 @@ module _ {D : Type 0} {g : Ghosts D} where
 pub each_more : (event : ℕ → Event) (n : ℕ) → each_rank event (n + 1) ≡ each_rank event n ++ event n ∷ []
 each_more event n = rw add-one refl
 
--- those of the places up to this one, that of it, and the others
+-- those at the ranks below this one, the one at it, and those above
 pub each_split : (event : ℕ → Event) (n k : ℕ) → k < n
     → (behind : List Event) × (each_rank event n ≡ (each_rank event k ++ event k ∷ []) ++ behind)
 each_split event zero k within = absurd (omega (arith, within))

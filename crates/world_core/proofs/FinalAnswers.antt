@@ -1,4 +1,4 @@
--- Each final answer among a peer's notes has a verdict, to which a connection has come as the steps went on.
+-- Each final answer among a peer's notes has a verdict, which a connection came to as the steps went on.
 use Rattle.std.proofs.Common.{◌≡◌, ◌⊎◌, ℕ, zero, suc, ◌+◌, Bool, true, false, cond, Option, None}
 use Rattle.std.proofs.Common.{Some, List, [], ◌∷◌, ◌++◌, drop, map, refl, sym, ap, ◌∙◌, subst, inl, inr}
 use Rattle.std.proofs.Common.{arith, append_assoc, append-nil}
@@ -64,7 +64,7 @@ use Rattle.world_core.proofs.WalkOverTapes.{Keeper, OnTape, events_keep}
 once : {A : Type 0} (x y : A) → Some x ≡ Some y → x ≡ y
 once x y same = cc
 
--- what a list of elements that a property holds of contains
+-- an element of a list, if a property holds of all of them
 all_contained : {A : Type 0} (P : A → Type 0) (xs : List A) (x : A) → AllByRecursion P xs → Contains xs x → P x
 all_contained P [] x all (k, below, is) = absurd (omega (arith, below))
 all_contained P (y ∷ xs) x all (zero, below, is) = subst P is all.0
@@ -103,29 +103,29 @@ notes_of one other same = ap (λ (t : TapePast). t.history.notes) same
 
 -- ---- peers
 
--- what is said of a final answer: at which rank, of which number, which code
+-- what is claimed of a final answer: at which rank, of which number, which code
 abbrev Says : Type 1
 Says = ℕ → ℕ → FinalCode → Type 0
 
--- a peer had these settings, and each final answer among its notes was there before, or has what is said of it
+-- a peer had these settings, and each final answer among its notes was there before, or the claim holds of it
 abbrev HasRight : Says → ℕ → PeerPast → PeerPast → Type 0
 HasRight V rank was now = (now.conf ≡ was.conf)
     × ((number : ℕ) (code : FinalCode) → Contains now.tape.history.notes (Final number code)
     → Contains was.tape.history.notes (Final number code) ⊎ V rank number code)
 
--- of one of the peers at this rank
+-- the same for the peer at this rank
 pub record PeerRight (V : Says) (was : List PeerPast) (rank : ℕ) (now : PeerPast) : Type 0 where
   pub before : PeerPast
   pub here : slice_get was rank ≡ Some before
   pub right : HasRight V rank before now
 
--- of all of them, and none is lost
+-- the same for all peers, and none is lost
 pub record AllRightly (V : Says) (was now : List PeerPast) : Type 0 where
   pub fore : (rank : ℕ) (peer : PeerPast) → slice_get was rank ≡ Some peer
       → (later : PeerPast) × (slice_get now rank ≡ Some later) × (later.conf ≡ peer.conf)
   pub back : (rank : ℕ) (peer : PeerPast) → slice_get now rank ≡ Some peer → PeerRight V was rank peer
 
--- nothing is said
+-- the claim that always holds
 abbrev Anyhow : Says
 Anyhow rank number code = Unit {0}
 
@@ -281,7 +281,7 @@ module _ (V : Says) where
       (λ n code has. absurd (no_final (Owe number token id) n code (λ is. cc) has))
   owing_right rank Already number token id peer = right_same rank peer
 
-  -- a debt of this number that was answered so, of which something is said, or that was not answered
+  -- a debt of this number was settled: if it was answered, the claim holds of the answer
   answered_right : (rank : ℕ) (settled : Settled) (number : ℕ) (peer : PeerPast)
       → ((code : FinalCode) → settled ≡ Answered code → V rank number code)
       → HasRight V rank peer (settled_as settled number peer)
@@ -299,7 +299,7 @@ module _ (V : Says) where
       right_notes rank peer (settled_as (Later moment) number peer) refl refl
   answered_right rank Ready number peer right = right_notes rank peer (settled_as Ready number peer) refl refl
 
-  -- where the outcome is a verdict, that is said
+  -- if the outcome is a verdict, the claim holds of it
   abbrev IsRight : ℕ → Outcome → Type 0
   IsRight rank outcome = (verdict : Verdict) → outcome ≡ FinalOutcome verdict → V rank verdict.debt.0 verdict.code
 
@@ -325,7 +325,7 @@ module _ (V : Says) where
 
   -- ---- events
 
-  -- where an outcome goes to a peer it is right
+  -- if an outcome goes to a peer, it is right
   abbrev EventRight : Event → Type 0
   EventRight (Settles rank id now outcome) = IsRight rank outcome
   EventRight event = Unit {0}
@@ -414,7 +414,7 @@ module _ (V : Says) where
     keeps_begun = λ past. begun_right past.peers;
   }
 
--- whatever is taken, no peer is lost, and its settings stay
+-- whichever event is taken, no peer is lost, and each keeps its settings
 any_event : (event : Event) → EventRight Anyhow event
 any_event (Settles rank id now outcome) = λ verdict is. tt
 any_event event = tt
@@ -443,7 +443,7 @@ put_here_step true e conns id conn was is rest here =
 put_here_step false e conns id conn was is rest here =
     ap (λ (b : Bool). cond b (Some e.1) (conn_at (map (put id conn) conns) id)) is ∙ rest here
 
--- the connection of this number becomes the new one, where there is one
+-- the connection of this number is replaced, if there is one
 put_here : (conns : List Entry) (id : ℕ) (conn was : ConnPast) → conn_at conns id ≡ Some was
     → conn_at (map (put id conn) conns) id ≡ Some conn
 put_here [] id conn was here = let never : None ≡ Some was = here in cc
@@ -482,7 +482,7 @@ ids_put (e ∷ conns) id conn = ids_step (e.0 == id) e conns id conn refl (ids_p
 abbrev Owned : Type 1
 Owned = ℕ → ℕ → Owing → Type 0
 
--- each debt that it has accepted is one of those
+-- each debt that it has accepted is one of these
 abbrev HasOwned : Owned → ℕ → ConnPast → Type 0
 HasOwned O id conn = (ticket : ℕ) (debt : Owing) → slice_get (accepted conn.transcript) ticket ≡ Some debt
     → O conn.rank id debt
@@ -502,7 +502,7 @@ put_owned O conns id conn all one at found here = elim (cases_eq at id) [
   | inr apart ↦ all at found (sym (put_other conns id at conn apart) ∙ here)
 ]
 
--- a connection more has accepted none
+-- one more connection, which has accepted nothing
 push_owned : (O : Owned) (conns : List Entry) (number rank : ℕ) → AllOwned O conns
     → AllOwned O (conns ++ (number, fresh_conn rank) ∷ [])
 push_owned O conns number rank all id found here =
@@ -533,7 +533,7 @@ all_mapped P (x ∷ xs) all among each = (
   all_mapped P xs all (λ y has. among y (contains_more xs x y has)) each,
 )
 
--- each outcome that is still to go to the peer has what each that came out has
+-- what holds of all outcomes that came out holds of those that have not gone to the peer yet
 unsettled_all : (P : Outcome → Type 0) (options : Options) (conn : ConnPast)
     → ((x : End) → Contains (ends options conn.transcript) x → P x.outcome)
     → AllByRecursion P (unsettled options conn)
@@ -557,18 +557,18 @@ record HasCome (life : Life) (rank number : ℕ) (code : FinalCode) : Type 0 whe
   of_number : verdict.debt.0 ≡ number
   of_code : verdict.code ≡ code
 
--- what a step makes of a world whose connections have accepted such debts alone
+-- what a step makes of a world whose connections have accepted only such debts
 record Rights (O : Owned) (life later : Life) : Type 0 where
   right : AllRightly (HasCome later) life.past.peers later.past.peers
   owned : AllOwned O later.conns
 
--- each connection is there still, and no debt was accepted
+-- each connection is still there, and no debt was accepted
 abbrev Carries : Life → Life → Type 0
 Carries life later = (id : ℕ) (conn : ConnPast) → conn_at life.conns id ≡ Some conn
     → (next : ConnPast) × (conn_at later.conns id ≡ Some next) × (next.rank ≡ conn.rank)
     × Grew conn.transcript next.transcript
 
--- a verdict stands as its connection goes on
+-- a verdict stays as its connection goes on
 come_on : (V : Says) (life later : Life) → Carries life later → AllRightly V life.past.peers later.past.peers
     → (rank number : ℕ) (code : FinalCode) → HasCome life rank number code → HasCome later rank number code
 come_on V life later carries all rank number code come =
@@ -647,14 +647,14 @@ module _ (O : Owned) (id : ℕ) (conn : ConnPast) (life later : Life) (f : WentO
     | inr apart ↦ (found, put_other life.conns id at f.next apart ∙ here, refl, grew_same found.transcript)
   ])
 
--- a connection whose transcript has grown has accepted no more
+-- a connection whose transcript has grown has accepted nothing more
 grown_owned : (O : Owned) (id : ℕ) (conn new : ConnPast) → new.rank ≡ conn.rank
     → Grew conn.transcript new.transcript → HasOwned O id conn → HasOwned O id new
 grown_owned O id conn new rank grew one ticket debt is =
     subst (λ (n : ℕ). O n id debt) (sym rank)
     (one ticket debt (sym (ap (λ (l : List Owing). slice_get l ticket) grew.same) ∙ is))
 
--- connections are told the moment, and none comes or goes
+-- the moment is set of connections, and none comes or goes
 ticks_numbers : (begun : Life) (count : ℕ) (outputs : List Said) (later : Life) → TicksEach begun count outputs later
     → ids_of later.conns ≡ ids_of begun.conns
 ticks_numbers begun _ _ _ NoneTicked = refl
@@ -664,14 +664,14 @@ ticks_numbers begun _ _ _ (OneTicked count outputs more mid later id conn peer t
 
 -- ---- steps
 
--- on tapes no final answer is noted
+-- steps on tapes note no final answer
 abbrev Never : Says
 Never rank number code = ⊥
 
 never_right : (V : Says) (was now : Past) → AllRightSince Never was now → AllRightSince V was now
 never_right V was now all = right_weaker Never V (λ rank number code never. absurd never) was.peers now.peers all
 
--- where the step hands a debt over, the peer owed it
+-- if the step hands a debt over, the peer owed it
 abbrev HandsOwed : Owned → Step → Life → Type 0
 HandsOwed O step life = (rank id : ℕ) (debt : Owing) (conn : ConnPast) (peer : PeerPast) → step ≡ Hand id
     → IsConn id life conn peer → conn.rank ≡ rank
@@ -741,14 +741,14 @@ module _ (O : Owned) where
         owned = follows.owned;
       }
 
-  -- the moment hands nothing over
+  -- a tick hands nothing over
   moves_right : (now : ℕ) (life later : Life) → MakesRight (Tick now) (at_moment now life) later
       → MakesRight (Tick now) life later
   moves_right now life later makes owes rising owned =
       let rights = makes (λ rank id debt conn peer hand is its candidate. absurd cc) rising owned in
       record { right = rights.right; owned = rights.owned }
 
-  -- a connection was told the moment, and went on
+  -- the moment of one connection was set, and it went on
   ticks_right : (now : ℕ) (begun mid later : Life) (count : ℕ) (outputs : List Said) (id : ℕ) (conn : ConnPast)
       (peer : PeerPast)
       → TicksEach begun count outputs mid → MakesRight (Tick now) begun mid
@@ -811,7 +811,7 @@ module _ (law : VerdictsAreRight) (own : EndsAreOwn) where
       all_contained (λ (y : End). slice_get (accepted h) y.ticket ≡ Some (debt_in y.outcome)) (ends options h) x
       (own options h) among ∙ ap (λ (o : Outcome). Some (debt_in o)) final
 
-  -- a connection of a world that is sound has come to its verdicts rightly
+  -- in a sound world, each verdict that a connection has come to is right
   rules_so : (life : Life) → IsSoundLife life → (rank number : ℕ) (code : FinalCode)
       → (come : HasCome life rank number code)
       → Rules life rank come.id come.verdict
@@ -835,7 +835,7 @@ module _ (law : VerdictsAreRight) (own : EndsAreOwn) where
             (law options h arises) come.among;
       }
 
-  -- the step was taken, and told this, or refused, and told nothing
+  -- the step was taken, and reported this, or was refused, and reported nothing
   abbrev IsNext : Step → Life → List (List Said) → Life → Type 0
   IsNext step life more later =
       ((outputs : List Said) × (more ≡ outputs ∷ []) × Takes step life outputs later)
@@ -951,7 +951,7 @@ module _ (law : VerdictsAreRight) (own : EndsAreOwn) where
           (own_debt (options_of come.peer.conf) come.conn.transcript come.end come.among come.verdict come.is_final));
     }
 
-    -- where the step hands a debt over, the peer owed it
+    -- if the step hands a debt over, the peer owed it
     owes_now : HandsOwed OwnedNow step life
     owes_now rank id debt conn peer hand is its candidate = inl (record {
       life = life;

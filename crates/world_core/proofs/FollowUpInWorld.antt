@@ -1,4 +1,4 @@
--- What follows a step on a connection at its peer is what follows it in the world.
+-- What follows a step on a connection, at its peer, is what follows it in the world.
 use Rattle.std.proofs.Common.{◌≡◌, ℕ, ◌≤◌, Some, List, length, refl, sym, ap, ◌∙◌, subst, inl, inr}
 use Rattle.std.specs.Prelude.{slice_get}
 use Rattle.std.proofs.Math.ListN.{set}
@@ -16,7 +16,7 @@ use Rattle.world_core.proofs.HeldNumbers.{out_rank}
 use Rattle.world_core.proofs.PeerInWorld.{Leads, PeerKeeps, get_set, keeps_then, leads_settled, safe_with, with_same}
 use Rattle.world_core.proofs.PeerInWorld.{with_twice}
 
--- ---- behind what led to the peer as it is
+-- ---- after the events that led to this peer
 
 module _ (life : Life) (rank id : ℕ) (was mid : PeerPast) (here : slice_get life.past.peers rank ≡ Some was)
     (within : was.tape.history.kept ≤ length was.tape.history.notes) (safe : IsSafe life.past)

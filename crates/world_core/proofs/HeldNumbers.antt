@@ -1,4 +1,4 @@
--- Which numbers a connection holds at its peer, and which it has, as its outcomes are taken.
+-- Which numbers a connection holds at its peer, and which it has itself, as its outcomes are taken.
 use Rattle.std.proofs.Common.{◌≡◌, ◌↔◌, ℕ, zero, suc, ◌+◌, Bool, true, false, cond, Option, None, Some, List, [], ◌∷◌}
 use Rattle.std.proofs.Common.{◌++◌, map, drop, refl, sym, ap, ◌∙◌, subst, inl, inr, arith}
 use Rattle.std.specs.Prelude.{◌==◌, Contains, nat_lt, slice_get, if◌then◌else◌}
@@ -40,7 +40,7 @@ apart_from n m [] all (k, below, is) same = absurd (omega (arith, below))
 apart_from n m (x ∷ rest) all (zero, below, is) same = let yes = eq-eqb n x (same ∙ sym is) in let no = all.0 in cc
 apart_from n m (x ∷ rest) all (suc k, below, is) same = apart_from n m rest all.1 (k, omega (arith, below), is) same
 
--- the first of distinct numbers is none of the others, which are distinct
+-- the first of distinct numbers is not among the others, which are distinct
 pub first_apart : (n : ℕ) (rest : List ℕ) → IsDistinct (λ one other. one == other) (n ∷ rest) → Contains rest n → ⊥
 unfolding IsDistinct
 first_apart n rest distinct has = apart_from n n rest distinct.0 has refl
@@ -59,7 +59,7 @@ test_apart n m apart k is =
 test_same : (n k : ℕ) → (k == n) ≡ true → (if k == n then false else true) ≡ false
 test_same n k is = ap (λ (b : Bool). if b then false else true) is
 
--- where a number is gone, any other keeps its place
+-- if a number is gone, any other keeps its place
 pub gone_other : (p : Places) (n m : ℕ) → (m ≡ n → ⊥) → place_at (gone p n) m ≡ place_at p m
 gone_other p n m apart =
     lookup-filter-keys (λ (k : ℕ). k == m) (λ (k : ℕ). if k == n then false else true) true (test_apart n m apart) p
@@ -77,7 +77,7 @@ moved_other_step p e n m q true is apart rest =
     ∙ (rest ∙ sym (ap (λ (b : Bool). cond b (Some e.1) (place_at p m)) there))
 moved_other_step p e n m q false is apart rest = ap (λ (o : Option DebtPlace). cond (e.0 == m) (Some e.1) o) rest
 
--- where a number moves, any other keeps its place
+-- if a number moves, any other keeps its place
 pub moved_other : (p : Places) (n m : ℕ) (q : DebtPlace) → (m ≡ n → ⊥) → place_at (moved p n q) m ≡ place_at p m
 moved_other [] n m q apart = refl
 moved_other (e ∷ p) n m q apart = moved_other_step p e n m q (e.0 == n) refl apart (moved_other p n m q apart)
@@ -94,9 +94,9 @@ pub moved_here : (p : Places) (n : ℕ) (q x : DebtPlace) → place_at p n ≡ S
 moved_here [] n q x here = let never : None ≡ Some x = here in cc
 moved_here (e ∷ p) n q x here = moved_here_step p e n q x (e.0 == n) refl (moved_here p n q x) here
 
--- ---- one number less
+-- ---- one number fewer
 
--- a connection that held these numbers holds all but the first, where that has another place, or none
+-- a connection that held these numbers holds all but the first once that one has another place, or none
 pub held_less : (p q : Places) (id n : ℕ) (rest : List ℕ) → ((m : ℕ) → IsHeldBy p id m ↔ Contains (n ∷ rest) m)
     → (Contains rest n → ⊥)
     → ((m : ℕ) → (m ≡ n → ⊥) → place_at q m ≡ place_at p m) → (IsHeldBy q id n → ⊥) → (m : ℕ)
@@ -120,7 +120,6 @@ drop_next (y ∷ xs) (suc n) x is = drop_next xs n x is
 
 -- ---- an outcome is taken, and goes to the peer
 
--- the rank stays
 pub out_rank : (os : List Outcome) (conn : ConnPast) → (all_out os conn).rank ≡ conn.rank
 out_rank [] conn = refl
 out_rank (o ∷ os) conn = out_rank os (one_out conn)
@@ -164,7 +163,7 @@ module _ (options : Options) where
       ∙ ap (λ (os : List Outcome). drop (conn.settled + 1) os)
       (sym (outcomes_out (conn.settled + 1) conn.transcript)))
 
-  -- and its number the first of the connection's
+  -- its number was the first of the connection's
   pub numbers_gone : (conn : ConnPast) (outcome : Outcome)
       → unsettled options conn ≡ outcome ∷ unsettled options (one_out conn)
       → numbers_at options conn ≡ key_in outcome ∷ numbers_at options (one_out conn)
@@ -174,7 +173,7 @@ module _ (options : Options) where
       key_in outcome ∷ (map key_in (unsettled options (one_out conn)) ++ map (λ (x : Held). x.debt.0) xs))
       (sym (held_out (conn.settled + 1) conn.transcript))
 
-  -- where it is taken, but waits, the connection has the numbers that it had
+  -- if it is taken, but waits, the connection keeps its numbers
   pub numbers_wait : (conn : ConnPast) → numbers_at options (waiting conn) ≡ numbers_at options conn
   numbers_wait conn =
       ap (λ (os : List Outcome).

@@ -1,4 +1,4 @@
--- What happens on a connection takes debts out of those that it holds, each into one outcome: it has the same numbers
+-- Whatever happens on a connection turns some of the debts that it holds into one outcome each: it has the same numbers
 -- as before.
 use Rattle.std.proofs.Common.{◌≡◌, ℕ, zero, suc, ◌+◌, ◌≤◌, Bool, true, false, cond, Option, None, Some, List, [], ◌∷◌}
 use Rattle.std.proofs.Common.{◌++◌, length, map, drop, find, refl, sym, ap, ◌∙◌, subst, arith, append_assoc, append-nil}
@@ -31,7 +31,7 @@ use Rattle.world_core.specs.Past.{ConnPast}
 use Rattle.world_core.specs.Exchange.{unsettled, with_transcript}
 use Rattle.world_core.specs.Sound.{numbers_at}
 
--- the numbers of debts that are held, and of debts that came out
+-- the numbers of held debts, and of debts that came out
 abbrev pub held_numbers : List Held → List ℕ
 held_numbers held = map (λ (x : Held). x.debt.0) held
 
@@ -53,7 +53,7 @@ one_out true c n y x left is m rest =
     omega (arith, ap (λ (z : Held). times (z.debt.0 ∷ []) m) same)
 one_out false c n y x left is m rest = let r = rest is in omega (arith, r)
 
--- one debt comes out of those held
+-- one of the held debts comes out
 pub find_out : (k : ℕ) (hs : List Held) (x : Held) → find (is_at k) hs ≡ Some x → (m : ℕ)
     → times (x.debt.0 ∷ []) m + times (held_numbers (remove_key (is_at k) hs)) m ≡ times (held_numbers hs) m
 find_out k [] x is m = let never : None ≡ Some x = is in cc
@@ -80,7 +80,7 @@ without_all (x ∷ hs) =
     ap (λ (b : Bool). without (tickets hs) (cond b hs (x ∷ remove_key (is_at x.ticket) hs)))
     (eq-eqb x.ticket x.ticket refl) ∙ without_all hs
 
--- these come out of the debts held, of which those are left
+-- these debts come out of the held ones, and those are left
 module _ (debts : List Owing) (gone : List ℕ) where
   abbrev still : List Held
   still = held_from 0 debts gone
@@ -147,7 +147,7 @@ module _ (debts : List Owing) (gone : List ℕ) where
   one_by_one_out code None = close_out (closes_in OneByOne None code)
   one_by_one_out code (Some command) = both_out code (Some command)
 
-  -- by a reply: in a mode it answers a command, or closes
+  -- what a reply brings out: it answers a command, or closes the connection
   came_out : (p : Phase) (reply : _) (done : List ℕ) (sent : List Ask)
       → Balances (ends_by_answer still reply.code (answered_now p reply done sent)
       ++ ends_at_close (closes_in p (answered_now p reply done sent) reply.code) still)
@@ -160,7 +160,7 @@ module _ (debts : List Owing) (gone : List ℕ) where
 -- ---- transcripts
 
 module _ (options : Options) where
-  -- the later transcript has these outcomes more, whose debts were held; none is taken, and none accepted
+  -- the later transcript has more outcomes, whose debts were held; none was taken, and no debt was accepted
   pub record GoesOn (h later : List Event) : Type 0 where
     pub more : List End
     pub ends_are : ends options later ≡ ends options h ++ more
@@ -208,7 +208,7 @@ module _ (options : Options) where
         omega (arith, split, one.balance m, other.balance m);
   }
 
-  -- an event that accepts and takes none
+  -- an event that accepts no debt and takes no outcome
   abbrev Keeps : Event → Type 0
   Keeps (Offered debt) = ⊥
   Keeps (Put command) = Unit {0}
@@ -260,7 +260,7 @@ module _ (options : Options) where
   quit_step true h = goes_cons h (Put Quit) tt
   quit_step false h = goes_nowhere h
 
-  -- with what an event puts out
+  -- an event, and then what it puts out
   pub goes_after : (h : List Event) (e : Event) → Keeps e → GoesOn h (after options h e)
   unfolding after
   goes_after h e keeps =
@@ -287,7 +287,7 @@ module _ (options : Options) where
   held_numbers_both [] ys = refl
   held_numbers_both (x ∷ xs) ys = ap (λ l. x.debt.0 ∷ l) (held_numbers_both xs ys)
 
-  -- what it puts out takes and ends nothing
+  -- what it puts out takes no outcome and ends no debt
   pub goes_offered : (h : List Event) (debt : Owing) → GoesOn (Offered debt ∷ h) (after options h (Offered debt))
   unfolding after
   goes_offered h debt =
@@ -348,7 +348,7 @@ module _ (options : Options) where
       let old = times_both (map key_in (unsettled options conn)) (held_numbers (held options conn.transcript)) m in
       omega (arith, now, apart, new, old, goes.balance m)
 
-  -- one number more
+  -- one more number
   pub more_numbers : (conn : ConnPast) (debt : Owing) → conn.settled ≤ length (outcomes options conn.transcript)
       → (m : ℕ)
       → times (numbers_at options (with_transcript conn (after options conn.transcript (Offered debt)))) m

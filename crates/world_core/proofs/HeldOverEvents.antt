@@ -1,4 +1,4 @@
--- Events on tapes leave to each connection what it holds.
+-- Over events on tapes, each connection keeps what it holds.
 use Rattle.std.proofs.Common.{◌≡◌, ◌↔◌, ℕ, ◌+◌, false, None, Some, List, [], ◌∷◌, refl, sym, ap}
 use Rattle.std.proofs.Common.{◌∙◌, subst, inl, inr}
 use Rattle.std.proofs.lemmas.Bool.{cases_eq}
@@ -20,7 +20,7 @@ use Rattle.world_core.proofs.RelatedLists.{zip_made, zip_put, zip_same, zip_then
 
 -- ---- one peer
 
--- a peer has its settings still, and each connection holds of it what it held
+-- a peer keeps its settings, and each connection holds there what it held
 abbrev pub HoldsSame : PeerPast → PeerPast → Type 0
 HoldsSame was now = (now.conf ≡ was.conf)
     × ((id number : ℕ) → IsHeldBy now.places id number ↔ IsHeldBy was.places id number)
@@ -69,7 +69,7 @@ hold_joined was mid now one other =
 
 -- ---- a line, and what is dropped
 
--- a debt more, that is ready, is held by none
+-- one more debt that is ready, and that no connection holds
 ready_back : (p : Places) (number id m : ℕ) → IsHeldBy (with_place p number Ready) id m → IsHeldBy p id m
 ready_back p number id m is = elim (cases_eq m number) [
   | inl same ↦ (
@@ -164,7 +164,7 @@ holds_begin past =
     zip_made HoldsSame (λ (peer : PeerPast). record peer { parted = false })
     (λ peer. hold_places peer (record peer { parted = false }) refl refl) past.peers
 
--- so do the steps on tapes, taken or refused
+-- the same of the steps on tapes, taken or refused
 abbrev pub steady : Keeper
 steady = record {
   ON = OnTape;

@@ -1,4 +1,4 @@
--- What the calls by which a backlog file is taken in make of the stations: one event after another.
+-- What the calls of an import make of the stations: one event after another.
 use Rattle.std.proofs.Common.{◌≡◌, ℕ, zero, suc, ◌+◌, ◌<◌, ◌≤◌, ◌^◌, Bool, true, false, None, Some, List, [], ◌∷◌}
 use Rattle.std.proofs.Common.{◌++◌, length, drop, map, cond, not, refl, sym, ap, ◌∙◌, subst, inl, inr, arith}
 use Rattle.std.proofs.Common.{append_assoc, add-one, get_or, Result, IfErr}
@@ -68,7 +68,7 @@ within_step true n m i is found =
     ]
 within_step false n m i is found = let never : None ≡ Some i = found in cc
 
--- the peer of a name is one of them
+-- the rank of a name is one of theirs
 rank_within : (past : Past) (name : List ℕ) (rank : ℕ) → rank_of past name ≡ Some rank → rank < length past.peers
 rank_within past name rank is =
     within_step _ (prefix_len (λ (peer : PeerPast). not (bytes_eq peer.conf.name name)) past.peers)
@@ -80,7 +80,7 @@ drop_here [] k x within is = absurd (omega (arith, within))
 drop_here (y ∷ xs) zero x within is = ap (λ z. z ∷ xs) (sym is)
 drop_here (y ∷ xs) (suc k) x within is = drop_here xs k x (omega (arith, within)) is
 
--- the line that stands there, and those behind it
+-- the line at this place, and those after it
 pub drop_next : {A : Type 0} (xs : List A) (k : ℕ) (x : A) → k < length xs → x ≡ get_or xs k x
     → drop k xs ≡ x ∷ drop (k + 1) xs
 drop_next xs k x within is = drop_here xs k x within is ∙ ap (λ (n : ℕ). x ∷ drop n xs) (sym (add-one k))
@@ -91,14 +91,14 @@ drop_end [] (suc k) past = refl
 drop_end (x ∷ xs) zero past = absurd (omega (arith, past))
 drop_end (x ∷ xs) (suc k) past = drop_end xs k (omega (arith, past))
 
--- ---- the peer behind an event
+-- ---- the peer after an event
 
 at_put : (past later : Past) (rank : ℕ) (was now : PeerPast) → slice_get past.peers rank ≡ Some was
     → later ≡ with_peer past rank now → slice_get later.peers rank ≡ Some now
 at_put past later rank was now here is =
     ap (λ (p : Past). slice_get p.peers rank) is ∙ get_set past.peers rank was now here
 
--- nothing pends behind a flush
+-- nothing pends after a flush
 at_spilled : (past later : Past) (rank source pending mark : ℕ) → IsAt past rank source pending mark
     → Does (Spills rank) past later → IsAt later rank source 0 mark
 at_spilled past later rank source pending mark at d =
@@ -115,7 +115,7 @@ at_spilled past later rank source pending mark at d =
           ∙ ap (λ (p : PeerPast). import_mark_at p) (sym same) ∙ at.mark_is;
     }
 
--- one note more
+-- one more note
 noted_ledger : (h : History) (note : Note) → ledger_after (noted h note) ≡ step (ledger_after h) note
 noted_ledger h note = after-append h.base h.notes (note ∷ [])
 
@@ -124,7 +124,7 @@ noted_pending : (h : History) (note : Note) → h.kept ≤ length h.notes
 noted_pending h note within =
     ap (λ (l : List Note). length l) (drop_push h.kept h.notes note within) ∙ length_push (pending_notes h) note
 
--- the mark of the open source is that of the line
+-- the line's number becomes the mark of the open source
 owed_mark : (number : ℕ) (token id : List ℕ) (peer : PeerPast) → number < 2 ^ 64
     → (step (ledger_at peer.tape) (Owe (import_key number peer) token id)).import_mark ≡ number
 owed_mark number token id peer fits =
@@ -177,15 +177,15 @@ module _ (past later : Past) (rank source pending mark number : ℕ) (token id :
       (if nat_lt mark number then number else mark)
   at_imported = at_line (nat_lt mark number) refl
 
--- how many notes pend behind a line, for which there was room
+-- how many notes pend after a line, for which there was room
 pending_both : (b : Bool) (w p : ℕ)
     → (if b then (if b then w else p) + 1 else (if b then w else p)) ≡ (if b then w + 1 else p)
 pending_both true w p = refl
 pending_both false w p = refl
 
--- ---- a tape that is broken refuses whichever event is first
+-- ---- a broken tape refuses whichever event is first
 
--- an owing note, or one that closes, is refused there for that alone
+-- a note that owes, or that closes a source, is refused there for that reason alone
 owe_broken : (tape : TapePast) (note : Note) (fault : Fault) → tape.broken ≡ true → RefusesOwe tape note fault
     → fault ≡ Tape Broken
 owe_broken tape note fault broken (inl is) = is.0
@@ -198,14 +198,14 @@ note_broken tape fault broken (inl is) = is.0
 note_broken tape fault broken (inr (inl full)) = absurd (apart tape.broken full.1 broken)
 note_broken tape fault broken (inr (inr memory)) = absurd (apart tape.broken memory.1 broken)
 
--- its peer is the one there
+-- its peer is this one
 broken_there : (past : Past) (rank : ℕ) → IsBrokenAt past rank → (peer : PeerPast)
     → slice_get past.peers rank ≡ Some peer → peer.tape.broken ≡ true
 broken_there past rank broken peer here =
     ap (λ (p : PeerPast). p.tape.broken) (once peer broken.0 (sym here ∙ broken.1)) ∙ broken.2
 
 module _ {D : Type 0} {g : Ghosts D} where
-  -- an event is refused there for that alone, and leaves the tape as it was
+  -- an event is refused there for that reason alone, and leaves the tape as it was
   broke_so : (R : PeerPast → Fault → TapePast → Type 0) (past : Past) (rank : ℕ) (event : Event) (fault : Fault)
       (stations : Stations D g) (failed : FailedOne past event fault stations) → IsBrokenAt past rank
       → RefusesAt R rank past fault failed.later
@@ -292,14 +292,14 @@ module _ {D : Type 0} {g : Ghosts D} where
     same_one : at.peer ≡ one.0
     same_one = once at.peer one.0 (sym at.here ∙ one.1)
 
-    -- so many notes pend at a tape that works
+    -- this many notes pend at a tape that works
     pends : one.0.tape.broken ≡ false → pending_of (tape_of was.station) ≡ pending
     pends works =
         pends_by (tape_of was.station) one.0.tape.history one.2.tape.stands
         (λ b. apart one.0.tape.broken works (sym one.2.tape.broken ∙ b))
         ∙ ap (λ (p : PeerPast). length (pending_notes p.tape.history)) (sym same_one) ∙ at.pending_is
 
-    -- there is some
+    -- there is room
     has_room : 0 < room → (b : Bool) → one.0.tape.broken ≡ b
         → MadeRoom past (room_events rank pending) rank source (with_room pending) mark old
     has_room some true is = inl ((one.0, one.1, is), stands)
@@ -361,7 +361,7 @@ module _ {D : Type 0} {g : Ghosts D} where
           → MadeNoRoom past (room_events rank pending) rank fault new
       unmade_room fault failed = by_fault fault failed failed.refused.refused
 
-  -- where the line is above the mark, as told
+  -- if the line is above the mark
   module _ (past : Past) (rank source pending mark number : ℕ) (stations : Stations D g) where
     pub room_above : mark < number
         → MadeRoom past (room_events rank pending) rank source (with_room pending) mark stations
@@ -384,7 +384,7 @@ module _ {D : Type 0} {g : Ghosts D} where
         (if b then with_room pending else pending) mark stations) (sym (le-ltb mark number below))
         (inr (record { did = did_none past stations stands; at = at }))
 
-  -- the mark that the station tells is that of its peer
+  -- the mark that the station returns is its peer's
   pub mark_there : (past : Past) (rank source pending mark : ℕ) (was : Peer D g)
       → IsAt past rank source pending mark
       → (p : PeerPast) × (slice_get past.peers rank ≡ Some p) × PeerStands p was
@@ -395,7 +395,7 @@ module _ {D : Type 0} {g : Ghosts D} where
 
   -- ---- a line
 
-  -- a peer of stations that stand for it
+  -- a peer has no more notes acknowledged than it has notes
   kept_at : (xs : List PeerPast) (ys : List (Peer D g)) (i : ℕ) (p : PeerPast) → AllZip PeerStands xs ys
       → slice_get xs i ≡ Some p → p.tape.history.kept ≤ length p.tape.history.notes
   kept_at [] ys i p all here = absurd cc
@@ -410,7 +410,7 @@ module _ {D : Type 0} {g : Ghosts D} where
     abbrev made : Type 0
     made = MadeRoom past (room_for rank pending mark line.0) rank source (pending_for pending mark line.0) mark old
 
-    -- the line was owed, where there is room
+    -- the line was owed, and there was room
     line_did : (d : DidAt past (room_for rank pending mark line.0) rank source (pending_for pending mark line.0) mark
         old)
         (owed : Owed) → ImportedOne d.did.later rank line.0 line.1.0 line.1.1 owed new
@@ -551,7 +551,7 @@ module _ {D : Type 0} {g : Ghosts D} where
         (failed_before d.did.later (Closes rank ∷ []) (Spills rank ∷ []) fault mid
         (failed_one d.did.later (Closes rank) fault mid (tells d.did.later d.did.stands)))
 
-    -- the source was closed, and its peer is to be flushed
+    -- the source was closed, and its peer must still be flushed
     pub closed_one : MadeRoom past (room_events rank pending) rank source (with_room pending) mark old → (closed : ℕ)
         → ((p : Past) → Stands old p → ClosedOne p rank closed mid)
         → (closed ≡ source) × Did past (room_events rank pending ++ Closes rank ∷ []) mid

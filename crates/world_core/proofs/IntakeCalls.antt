@@ -31,7 +31,7 @@ use Rattle.world_core.proofs.SoundOverEvents.{sound_intake}
 use Rattle.world_core.proofs.StationCalls.{same_history}
 
 module _ {D : Type 0} {g : Ghosts D} where
-  -- the new stations have this tape of the intake's, and all else is as it was
+  -- the new stations have this tape as the intake's, and all else is as it was
   pub record WithIntake (old new : Stations D g) (tape : Tape D g) : Type 0 where
     pub peers : new.peers ≡ old.peers
     pub intake : new.intake ≡ tape
@@ -61,7 +61,7 @@ module _ {D : Type 0} {g : Ghosts D} where
     same_there : new ≡ old → TapeStands past new
     same_there same = subst (λ (t : Tape D g). TapeStands past t) (sym same) stands
 
-    -- a flush of a bare tape was refused
+    -- a flush of the tape alone was refused
     tape_unflushed : (fault : TapeFault) (outputs : Fault) → outputs ≡ fault_of fault → ((fault
         ≡ Broken) ↔ IsBroken old)
         → ((fault ≡ TapeFull) ↔ ((IsBroken old → ⊥) × IsFull old)) → (pending_of old ≡ 0 → (IsBroken old → ⊥) → ⊥)

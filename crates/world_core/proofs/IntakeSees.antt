@@ -1,4 +1,4 @@
--- What a number that is noted on the intake's tape makes of all stations.
+-- What a number noted on the intake's tape makes of all stations.
 use Rattle.std.proofs.Common.{◌≡◌, ◌≢◌, ◌↔◌, ℕ, ◌<◌, ◌≤◌, Bool, if◌then◌else◌, refl, sym, ap, ◌∙◌, subst, inl, inr}
 use Rattle.std.proofs.Common.{arith}
 use Rattle.std.proofs.lemmas.Bool.{lt-ltb, le-ltb}
@@ -54,7 +54,7 @@ module _ {D : Type 0} {g : Ghosts D} where
         broken = same_truth (broken_of old) (broken_of new) works ∙ stands.broken;
       }
 
-  -- the number is noted already
+  -- the number was noted before
   pub did_see_old : (stations : Stations D g) (past : Past) (number : ℕ) → Stands stations past
       → number ≤ (ledger_of stations.intake).mark
       → DidOne past (Sees number) stations

@@ -1,4 +1,4 @@
--- A line is owed at one peer that it names after another.
+-- A line is owed at each peer that it names, one after another.
 use Rattle.std.proofs.Common.{◌≡◌, ℕ, zero, suc, ◌+◌, ◌<◌, Bool, true, false, Some, List, [], ◌∷◌, ◌++◌, length, take}
 use Rattle.std.proofs.Common.{drop, map, if◌then◌else◌, refl, sym, ap, ◌∙◌, subst, arith, add-one, append-nil}
 use Rattle.std.proofs.Common.{append_assoc}
@@ -70,7 +70,7 @@ pub length_more : {A : Type 0} (prefix : List A) (x : A) → length prefix + 1 �
 length_more [] x = refl
 length_more (y ∷ prefix) x = omega (arith, length_more prefix x)
 
--- ---- the peers that a line names rise by their places
+-- ---- the peers that a line names, by rising ranks
 
 all_lower : (k low rank : ℕ) (named : List (List ℕ)) (peers : List PeerPast) → low < rank
     → AllByRecursion (λ (entry : ℕ × PeerPast). low < entry.0) (named_from rank named peers)
@@ -90,7 +90,7 @@ at_all P [] k x all here = absurd cc
 at_all P (y ∷ xs) zero x all here = let same : y ≡ x = cc in subst P same all.0
 at_all P (y ∷ xs) (suc k) x all here = at_all P xs k x all.1 here
 
--- those before one stand lower
+-- those before one have lower ranks
 lower_before : (rank : ℕ) (named : List (List ℕ)) (peers : List PeerPast) (k : ℕ) (entry : ℕ × PeerPast)
     → slice_get (named_from rank named peers) k ≡ Some entry
     → AllByRecursion (λ (other : ℕ × PeerPast). other.0 < entry.0) (take k (named_from rank named peers))
@@ -112,7 +112,7 @@ lower_before rank named (peer ∷ peers) k entry here =
     by true (suc n) at more above = (above n at, more n at)
     by false n at more above = more n at
 
--- each stands at its rank
+-- each is at its rank
 stands_at : (all : List PeerPast) (rank : ℕ) (named : List (List ℕ)) (peers : List PeerPast) (k : ℕ) (entry : ℕ
     × PeerPast)
     → ((i : ℕ) (peer : PeerPast) → slice_get peers i ≡ Some peer → slice_get all (rank + i) ≡ Some peer)
@@ -161,7 +161,6 @@ faults_of number entry = (entry.1.conf.name, owed_as number entry.1)
 abbrev pub said_at : OwedAt → List ℕ × Owed
 said_at at = (at.name, at.owed)
 
--- the next of the peers that are named
 next_of : (past : Past) (named : List (List ℕ)) (prefix : List (ℕ × List ℕ)) (at : ℕ × List ℕ) (back : List (ℕ
     × List ℕ))
     → AreFound past named (prefix ++ at ∷ back)
@@ -169,7 +168,7 @@ next_of : (past : Past) (named : List (List ℕ)) (prefix : List (ℕ × List �
 next_of past named prefix at back found = split_at entry_of (named_from 0 named past.peers) prefix at back (sym found)
 
 module _ {D : Type 0} {g : Ghosts D} where
-  -- the line is owed at so many of the peers that it names, from the first on, and those behind are as they were
+  -- the line is owed at this many of the peers that it names, from the first on, and those after them are as they were
   pub record OwedSome (past : Past) (token id : List ℕ) (named : List (List ℕ)) (count : ℕ) (outputs : List OwedAt)
       (stations : Stations D g) : Type 0 where
     pub did : Did past (map (owes_at token id) (take count (named_from 0 named past.peers))) stations
@@ -260,7 +259,7 @@ module _ {D : Type 0} {g : Ghosts D} where
         (map (owes_at token id) (drop (suc (length prefix)) (named_from 0 named past.peers))) fault old new so_far.did
         (subst (λ (n : ℕ). FailedOne so_far.did.later (Owes n token id) fault new) (sym next_rank) one))
 
-  -- all of them
+  -- it is owed at all of them
   pub some_all : (past : Past) (token id : List ℕ) (named : List (List ℕ)) (found : List (ℕ × List ℕ))
       (outputs : List OwedAt) (stations : Stations D g)
       → AreFound past named found → OwedSome past token id named (length found) outputs stations

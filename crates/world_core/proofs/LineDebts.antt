@@ -1,4 +1,5 @@
--- The debts of an acknowledged line are kept, and a line that is read again is new where its peer had not noted it.
+-- The debts of an acknowledged line are kept, and a line that is read again is new exactly if its peer had not noted
+-- it.
 use Rattle.std.proofs.Common.{◌≡◌, ◌⊎◌, ◌+◌, ◌++◌, ℕ, zero, suc, Bool, true, false, ◌&&◌, Some, List, [], ◌∷◌, length}
 use Rattle.std.proofs.Common.{map, refl, sym, ap, ◌∙◌, subst, inl, inr, append_assoc}
 use Rattle.std.specs.Prelude.{Contains, if◌then◌else◌, nat_lt}
@@ -41,7 +42,7 @@ zip_both R (a ∷ xs) (b ∷ ys) zero x y all here there =
     subst (R x) other (subst (λ z. R z b) one all.0)
 zip_both R (a ∷ xs) (b ∷ ys) (suc i) x y all here there = zip_both R xs ys i x y all.1 here there
 
--- where an element of a list stands
+-- an element of a list, by its index
 stands : {A : Type 0} (xs : List A) (x : A) → Contains xs x → (i : ℕ) × (slice_get xs i ≡ Some x)
 stands xs x (i, below, is) = (i, slice_get-get_or xs i x below ∙ ap Some is)
 
@@ -55,7 +56,7 @@ begun_safe begun _ _ _ (Step_taken steps step lines outputs life later comes tak
 begun_safe begun _ _ _ (Step_refused steps step lines fault life later comes refuses safe sound) =
     begun_safe begun life steps lines comes
 
--- its debt is owed after the first of the notes that its peer has now, or has ended
+-- its debt is owed after any prefix of its peer's notes that has every acknowledged one in it, or has ended
 debt_kept : (past : Past) (rank number : ℕ) (token id : List ℕ) (now : PeerPast) → IsSafe past
     → (made : MadeDebt past rank number token id) → StillOwes made.peer now
     → (state : State) → IsPrefix now.tape.history state → OwesOrEnded now number token id state
@@ -87,7 +88,6 @@ none_done : (begun later : Past) (events : List Event) → AllDo begun events la
 none_done begun _ _ Start is = refl
 none_done begun _ _ (Next events event past later does one safe) is = absurd (not_none events event is)
 
--- the first of them, and the others
 first_done : (begun later : Past) (events : List Event) (event : Event) (rest : List Event) → AllDo begun events later
     → events ≡ event ∷ rest → (mid : Past) × Does event begun mid × AllDo mid rest later
 first_done begun _ _ event rest Start is = absurd cc
@@ -110,7 +110,7 @@ first_done begun _ _ event rest (Next (x ∷ xs) last past later does one safe) 
 
 -- ---- a line that is read
 
--- what stands behind so many peers, and another in its place
+-- the peer after this many, and another in its place
 get_here : (prefix peers : List PeerPast) (peer : PeerPast)
     → slice_get (prefix ++ peer ∷ peers) (length prefix) ≡ Some peer
 get_here [] peers peer = refl
@@ -121,7 +121,7 @@ set_here : (prefix peers : List PeerPast) (peer new : PeerPast)
 set_here [] peers peer new = refl
 set_here (x ∷ prefix) peers peer new = ap (λ l. x ∷ l) (set_here prefix peers peer new)
 
--- these peers stand in all tapes, and else it is as it was
+-- these peers in place of all; all else is as it was
 abbrev with_peers : Past → List PeerPast → Past
 with_peers past peers = record past { peers = peers }
 
@@ -147,13 +147,13 @@ module _ (token id : List ℕ) (named : List (List ℕ)) where
   owing_is number peer true = refl
   owing_is number peer false = refl
 
-  -- once the peers in front have read the line, and this one has become another, those behind read it
+  -- once the peers in the prefix have read the line, and this one has become another, those after it read it
   abbrev Behind : (prefix peers : List PeerPast) (past later : Past) → PeerPast → Type 0
   Behind prefix peers past later new = AllDo (with_peers past ((prefix ++ new ∷ []) ++ peers))
       (owes_from (length (prefix ++ new ∷ [])) token id named peers) later
       → later ≡ with_peers past ((prefix ++ new ∷ []) ++ map (read_at (past.last + 1) token id named) peers)
 
-  -- the line at each peer behind these
+  -- the line at each peer after these
   pub all_read : (prefix peers : List PeerPast) (past later : Past)
       → AllDo (with_peers past (prefix ++ peers)) (owes_from (length prefix) token id named peers) later
       → later ≡ with_peers past (prefix ++ map (read_at (past.last + 1) token id named) peers)
@@ -190,7 +190,7 @@ module _ (token id : List ℕ) (named : List (List ℕ)) where
           (subst (λ (p : Past). AllDo p (owes_from (length prefix + 1) token id named peers) later) mid first.2))
       by false rest all = behind peer (rest peer) all
 
--- it is reported as new at exactly the peers to which it is
+-- it is reported as new at exactly the peers to which it is new
 outputs_are : (number : ℕ) (named : List (List ℕ)) (peers : List PeerPast)
     → reported_new (owed_there number named peers) ≡ new_to number named peers
 outputs_are number named [] = refl

@@ -1,4 +1,4 @@
--- A funnel line, from what it says and the events at the peers that it names.
+-- How a funnel line is read: what it contains, and the events at the peers that it names.
 use Rattle.std.proofs.Common.{◌≡◌, ◌≢◌, ◌↔◌, ◌⊎◌, ℕ, ◌+◌, ◌^◌, ◌<◌, ◌≤◌, List, [], ◌∷◌, map, Err, refl, sym, ap, ◌∙◌}
 use Rattle.std.proofs.Common.{subst, inl, inr, arith}
 use Rattle.std.specs.Prelude.{IsErrOf}
@@ -23,7 +23,7 @@ use Rattle.world_core.specs.declared.output.Output.{Output}
 use Rattle.world_core.specs.declared.output.Output.TheVariants.{Bad as OutputBad, Owed as OutputOwed}
 use Rattle.world_core.proofs.SoundOverEvents.{sound_last}
 
--- the fault that was reported is one that the line has
+-- the fault that was reported is a fault of the line
 pub reads_bad : (text : List ℕ) (fault : LineFault) → {T : Type 0}
     → (IsErrOf {T = T} (Err fault) TooLong ↔ HasFault text TooLong)
     → (IsErrOf {T = T} (Err fault) NoToken ↔ HasFault text NoToken)

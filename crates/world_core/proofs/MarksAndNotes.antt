@@ -1,4 +1,4 @@
--- Lemmas on lists and marks, and on what is acknowledged.
+-- Lemmas about lists, marks, and what is acknowledged.
 use Rattle.std.proofs.Common.{◌≡◌, ℕ, zero, suc, ◌<◌, ◌≤◌, ◌^◌, Bool, Some, List, [], ◌∷◌, ◌++◌, length, get_or}
 use Rattle.std.proofs.Common.{take, drop, map, refl, sym, ap, ◌∙◌, subst, inl, inr, arith, take-append-drop}
 use Rattle.std.specs.Prelude.{if◌then◌else◌}
@@ -27,7 +27,7 @@ module _ {A B : Type 0} (R : A → B → Type 0) where
   zip_set (a ∷ xs) (b ∷ ys) zero x y all one = (one, all.1)
   zip_set (a ∷ xs) (b ∷ ys) (suc i) x y all one = (all.0, zip_set xs ys i x y all.1 one)
 
-  -- the one that stands beside an element
+  -- the element of the other list at the same rank
   pub zip_at : (xs : List A) (ys : List B) (i : ℕ) (d : B) → AllZip R xs ys → i < length ys
       → (x : A) × (slice_get xs i ≡ Some x) × R x (get_or ys i d)
   zip_at [] [] i d all within = absurd (omega arith)
@@ -70,7 +70,7 @@ pub all_weaker : {A : Type 0} (P Q : A → Type 0) → ((x : A) → P x → Q x)
 all_weaker P Q weaker [] all = tt
 all_weaker P Q weaker (x ∷ xs) all = (weaker x all.0, all_weaker P Q weaker xs all.1)
 
--- what is looked at of each stays where that of one does
+-- a view of each element stays if it stays for the one replaced
 pub map_set : {A B : Type 0} (f : A → B) (xs : List A) (i : ℕ) (x y : A) → slice_get xs i ≡ Some x → f y ≡ f x
     → map f (set xs i y) ≡ map f xs
 map_set f [] i x y here same = refl
@@ -81,7 +81,7 @@ map_set f (a ∷ xs) (suc i) x y here same = ap (λ l. f a ∷ l) (map_set f xs 
 
 -- ---- marks
 
--- a line of the funnel is above it, and one of another source leaves it
+-- a note that owes does not lower the mark: a line of the funnel is above it, and one of another source leaves it
 owe_mark : (state : State) (key : ℕ) (token id : List ℕ) → IsNext (marks_of state) key
     → state.mark ≤ (step state (Owe key token id)).mark
 owe_mark state key token id (inl (line, above)) =
@@ -103,7 +103,7 @@ after_mark state [] legal = omega arith
 after_mark state (note ∷ notes) legal =
     omega (arith, step_mark state note (legal.0, tt), after_mark (step state note) notes legal.1)
 
--- the mark of the first notes is not above that of all
+-- the mark of a prefix of the notes is at most that of all
 pub take_mark : (base : State) (notes : List Note) (count : ℕ) → AllLegal base notes
     → (after base (take count notes)).mark ≤ (after base notes).mark
 take_mark base notes count legal =
@@ -117,7 +117,7 @@ take_mark base notes count legal =
 
 -- ---- what is acknowledged
 
--- above a mark is above a lesser one
+-- a note above a mark is above any lower mark
 pub above_less : (low high : ℕ) → low ≤ high → (note : Note) → IsAbove high note → IsAbove low note
 above_less low high less (Owe key token id) above = omega (arith, less, above)
 above_less low high less (Final key code) above = tt
@@ -135,7 +135,7 @@ drop_push zero xs x le = refl
 drop_push (suc k) [] x le = absurd (omega arith)
 drop_push (suc k) (a ∷ xs) x le = drop_push k xs x (omega arith)
 
--- one note more pends
+-- one more note pends
 pub above_noted : (mark : ℕ) (h : History) (note : Note) → h.kept ≤ length h.notes
     → AllByRecursion (IsAbove mark) (pending_notes h)
     → IsAbove mark note → AllByRecursion (IsAbove mark) (pending_notes (noted h note))
@@ -147,7 +147,7 @@ above_noted mark h note within all one =
 pub above_flushed : (mark : ℕ) (h : History) → AllByRecursion (IsAbove mark) (pending_notes (flushed h))
 above_flushed mark h = subst (AllByRecursion (IsAbove mark)) (sym (drop-length h.notes)) tt
 
--- what survives of the intake's notes keeps the lines, where what all of them mark is acknowledged
+-- whatever survives of the intake's notes keeps the lines, if all lines up to the intake's mark are acknowledged
 pub keeps_lines : (intake : History) (peers : List PeerPast) (octets : Octets) → AreLegal intake.base intake.notes
     → AllByRecursion (HasAcknowledged (mark_of intake)) peers → Survives intake octets
     → HasLedger (KeepsLines intake peers) octets

@@ -1,4 +1,4 @@
--- At each moment within a step, whatever a stop leaves of a tape is the tape of the first of its notes.
+-- At each moment within a step, whatever a stop leaves of a tape is the tape of a prefix of its notes.
 use Rattle.std.proofs.Common.{◌≡◌, ◌⊎◌, ◌+◌, ◌++◌, ℕ, Bool, true, false, ◌∙◌, Some, List, [], ◌∷◌, map, refl}
 use Rattle.std.proofs.Common.{sym, ap, subst, inl, inr}
 use Rattle.std.specs.Prelude.{if◌then◌else◌, nat_lt}
@@ -40,7 +40,7 @@ pub not_none : {A : Type 0} (xs : List A) (x : A) → xs ++ x ∷ [] ≡ [] → 
 not_none [] x is = cc
 not_none (y ∷ xs) x is = cc
 
--- one relation from another, with what each of the first has
+-- one relation from another, and from what each element of the first list has
 zip_with : {A B : Type 0} (P : A → B → Type 0) (S : A → Type 0) (Q : A → B → Type 0)
     → ((x : A) (y : B) → P x y → S x → Q x y)
     → (xs : List A) (ys : List B) → AllZip P xs ys → AllByRecursion S xs → AllZip Q xs ys
@@ -52,11 +52,11 @@ zip_with P S Q each (x ∷ xs) (y ∷ ys) zip all =
 
 -- ---- a peer
 
--- whatever a stop leaves now is that of the first of its notes
+-- whatever a stop leaves now is the tape of a prefix of the peer's notes
 abbrev IsSafePeer : PeerPast → Type 0
 IsSafePeer peer = EachLedger (KeepsNotes peer) peer.tape.log
 
--- then so it is at each moment from here to there
+-- the same holds at each moment from the first peer to the second
 abbrev Leaves : PeerPast → PeerPast → Type 0
 Leaves old new = IsSafePeer old → StaysPrefix old new
 
@@ -201,7 +201,7 @@ same_intake was now same safe =
 intake_of : (was now : Past) → was ≡ now → was.intake.log ≡ now.intake.log
 intake_of was now same = ap (λ (p : Past). p.intake.log) same
 
--- one of its events came to this tape of it
+-- one of its events left this tape
 other_intake : (was now : Past) (tape : TapePast) → now.intake ≡ tape
     → LedgersLeave (KeepsLines was.intake.history was.peers) was.intake.log tape.log → Lasts was now
 other_intake was now tape is leaves safe =
@@ -235,7 +235,7 @@ taken_lasts Acknowledges was now d = other_intake was now d.tape (tape_of _ _ d.
 taken_lasts (Opens rank) was now d = same_intake was now (intake_of _ _ d.changed)
 taken_lasts OpensIntake was now d = other_intake was now d.tape (tape_of _ _ d.changed) d.opens.moments
 
--- a flush of it that was refused
+-- a flush of it was refused
 unflushed_lasts : (was now : Past) (fault : Fault) (tape : TapePast) → now.intake ≡ tape
     → RefusesFlush (KeepsLines was.intake.history was.peers) was.intake fault tape → Lasts was now
 unflushed_lasts was now fault tape is (inl broken) = same_intake was now (log_of _ _ (is ∙ broken.2))

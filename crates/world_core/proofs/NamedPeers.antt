@@ -1,4 +1,4 @@
--- The peers that a line names: where they stand, and in which order.
+-- The peers that a line names: their ranks, and their order.
 use Rattle.std.proofs.Common.{◌≡◌, ◌⊎◌, ℕ, zero, suc, ◌+◌, ◌<◌, ◌≤◌, Bool, true, false, ◌||◌, ◌==◌, Option, None, Some}
 use Rattle.std.proofs.Common.{List, [], ◌∷◌, ◌++◌, length, get_or, map, if◌then◌else◌, cond, refl, sym, ap, ◌∙◌, subst}
 use Rattle.std.proofs.Common.{inl, inr, arith}
@@ -70,7 +70,7 @@ any_miss : (p : List ℕ → Bool) (xs : List (List ℕ)) (x : List ℕ) → p x
 any_miss p [] x is = ap (λ (b : Bool). b || false) is
 any_miss p (y ∷ xs) x is = ap (λ (b : Bool). p y || b) (any_miss p xs x is)
 
--- ---- what stands among the peers that are named
+-- ---- what is among the peers that are named
 
 abbrev pub entry_of : ℕ × PeerPast → ℕ × List ℕ
 entry_of entry = (entry.0, entry.1.conf.name)
@@ -107,7 +107,7 @@ named_outputs rank number named (peer ∷ peers) = by (is_named named peer) (nam
     by true more = ap (λ l. (peer.conf.name, owed_as number peer) ∷ l) more
     by false more = more
 
--- a name more that no peer has
+-- one more name, which no peer has
 none_more : (rank : ℕ) (names : List (List ℕ)) (name : List ℕ) (peers : List PeerPast)
     → AllByRecursion (λ (peer : PeerPast). bytes_eq name peer.conf.name ≡ false) peers
     → named_from rank (names ++ name ∷ []) peers ≡ named_from rank names peers
@@ -121,7 +121,7 @@ none_more rank names name (peer ∷ peers) none =
 nat_less : (low high : ℕ) → low < high → nat_cmp low high ≡ Less
 nat_less low high below = ap (λ (b : Bool). cond b Less (cond (low == high) Equal Greater)) (lt-ltb low high below)
 
--- the first of them stands no lower
+-- a rank below those of all named peers comes first
 lowest : (low rank : ℕ) (named : List (List ℕ)) (name : List ℕ) (peers : List PeerPast) → low < rank
     → insert_entry nat_cmp (map entry_of (named_from rank named peers)) low name
     ≡ (low, name) ∷ map entry_of (named_from rank named peers)
@@ -173,7 +173,7 @@ higher_key low rank v w rest above =
     ((low, v) ∷ insert_entry nat_cmp rest rank w))
     (nat_cmp_total.antisymm rank low ∙ ap ordering_reverse (nat_less low rank above))
 
--- a name more, which the peer at this rank has
+-- one more name, of the peer at this rank
 pub one_more : (rank at : ℕ) (names : List (List ℕ)) (name : List ℕ) (peers : List PeerPast) (peer : PeerPast)
     → NamesRise (names_of peers)
     → slice_get peers at ≡ Some peer → peer.conf.name ≡ name
@@ -253,7 +253,7 @@ within_more count (entry ∷ found) rank name all one =
     by Equal more = (all.0, all.1)
     by Greater more = (all.0, more)
 
--- ---- the search by halves
+-- ---- the binary search
 
 step_up : (one other name : List ℕ) → IsBefore one other
     → ordering_index (slice_cmp nat_cmp one name) ≤ ordering_index (slice_cmp nat_cmp other name)
@@ -335,7 +335,7 @@ module _ {D : Type 0} {g : Ghosts D} where
   none_past name (past ∷ pasts) (peer ∷ peers) all none =
       (subst (λ conf. bytes_eq name conf.name ≡ false) all.0.conf none.0, none_past name pasts peers all.1 none.1)
 
-  -- what the search answered, where an element is equal
+  -- what the search returns if a peer has the name
   pub found_some : (past : Past) (name : List ℕ) (stations : Stations D g) (rank : ℕ) → Stands stations past
       → rank < length stations.peers.items
       → ((d : Peer D g) → slice_cmp nat_cmp (get_or stations.peers.items rank d).conf.name name ≡ Equal)
@@ -348,7 +348,7 @@ module _ {D : Type 0} {g : Ghosts D} where
       (subst (λ (p : Peer D g). slice_cmp nat_cmp p.conf.name name ≡ Equal) (there.2 there.0) (equal there.0)) in
       (beside.0, beside.1, ap (λ conf. conf.name) (sym beside.2.conf) ∙ same)
 
-  -- and where none is
+  -- and if none has
   pub found_none : (past : Past) (name : List ℕ) (stations : Stations D g) (i : ℕ) → Stands stations past
       → (IsNonDecreasingBy (λ (peer : Peer D g). ordering_index (slice_cmp nat_cmp peer.conf.name name))
       stations.peers.items
@@ -372,7 +372,7 @@ module _ {D : Type 0} {g : Ghosts D} where
         | inr more ↦ inr (point.1 k d more within)
       ]
 
-  -- what the search answers
+  -- what the search returns
   pub found_as : (past : Past) (name : List ℕ) (stations : Stations D g) (r : Result ℕ ℕ) (o : Option ℕ)
       → o ≡ result_ok r → Stands stations past
       → IsSearchInRange r (length stations.peers.items)
@@ -390,7 +390,7 @@ found_within long (Ok rank) o is within =
 found_within long (Err i) o is within =
     subst (λ (p : Option ℕ). MatchOption p (Unit {0}) (λ (rank : ℕ). rank < long)) (sym is) tt
 
--- ---- the map of what is found
+-- ---- the map of the peers that were found
 
 map_none : (rank : ℕ) (peers : List PeerPast) → named_from rank [] peers ≡ []
 map_none rank [] = refl

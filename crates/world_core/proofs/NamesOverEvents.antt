@@ -1,4 +1,4 @@
--- The names of the peers stay, whatever happens.
+-- The names of the peers stay over any events.
 use Rattle.std.proofs.Common.{◌≡◌, ℕ, ◌+◌, Some, refl, ap, ◌∙◌}
 use Rattle.std.specs.List.{slice_get}
 use Rattle.world_core.specs.Past.{Past, PeerPast, with_peer}

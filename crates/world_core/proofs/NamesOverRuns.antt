@@ -1,4 +1,4 @@
--- The names of the peers stay, whatever steps are taken.
+-- The names of the peers stay over any steps.
 use Rattle.std.proofs.Common.{◌≡◌, ℕ, List, length, map, refl, sym, ap, ◌∙◌}
 use Rattle.std.specs.List.{AllZip}
 use Rattle.disk_model.specs.declared.Disk.{Ghosts}
@@ -21,11 +21,9 @@ use Rattle.world_core.proofs.WalkOverSteps.{runs_all}
 use Rattle.world_core.proofs.WalkOverTapes.{Keeper}
 use Rattle.world_core.proofs.RelatedLists.{zip_length, zip_equal}
 
--- the names of its peers
 abbrev named : Life → List (List ℕ)
 named life = names_of life.past.peers
 
--- they stay
 abbrev SameNames : Past → Past → Type 0
 SameNames was now = names_of now.peers ≡ names_of was.peers
 
@@ -46,7 +44,7 @@ pub names_runs : (begun later : Life) (steps : List Step) (lines : List (List Sa
 names_runs begun later steps lines runs =
     runs_all naming (λ event. tt) (λ manner past. names_left manner past.peers) begun steps lines later runs
 
--- ---- what stands for them has their names
+-- ---- what stands for the peers has their names
 
 module _ {D : Type 0} {g : Ghosts D} where
   open_names : (pasts : List PeerPast) (peers : List (Peer D g)) → AllZip PeerStands pasts peers

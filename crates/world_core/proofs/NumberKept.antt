@@ -1,4 +1,4 @@
--- A number is kept, and a seal is possible.
+-- How a number is kept, and when it may be sealed.
 use Rattle.std.proofs.Common.{◌≡◌, ℕ, zero, suc, ◌+◌, ◌<◌, Bool, true, false, ◌&&◌, Option, None, Some, IfSome}
 use Rattle.std.proofs.Common.{List, [], ◌∷◌, ◌++◌, length, get_or, take, drop, map, refl, sym, ap, ◌∙◌, subst, arith}
 use Rattle.std.proofs.Common.{add-one}
@@ -18,7 +18,7 @@ pub if_some : {A : Type 0} (o : Option A) (P : A → Type 0) → ((x : A) → o 
 if_some None P all = tt
 if_some (Some x) P all = all x refl
 
--- ---- one more of a list was changed in place
+-- ---- one more element of a list was changed in place
 
 module _ {A : Type 0} (f : A → A) where
   get_next : (xs : List A) (i : ℕ) (d : A) → get_or (map f (take i xs) ++ drop i xs) i d ≡ get_or xs i d

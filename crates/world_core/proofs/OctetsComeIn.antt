@@ -79,7 +79,7 @@ module _ {D : Type 0} {g : Ghosts D} (id : ℕ) (conn : ConnPast) (past : PeerPa
     (peer : Peer D g)
     (pair : PairStands id conn past old peer) (waits : new.waiting ≡ old.waiting) (rank : new.rank ≡ old.rank)
     (same_id : new.conn.id ≡ old.conn.id) where
-  -- the connection behind octets that were read
+  -- the connection after octets were read
   pub pair_received : (octets : List ℕ)
       → ((o : Options) (unread : List ℕ) (h : List Happening) → ConnStands o old.conn unread h
       → (later : List Happening) × (left : List ℕ) × Receives o (unread ++ octets) h later left
@@ -114,7 +114,7 @@ module _ {D : Type 0} {g : Ghosts D} (id : ℕ) (conn : ConnPast) (past : PeerPa
             same_id,
       )
 
-  -- and behind an article that was handed in
+  -- and after an article was handed in
   pub pair_handed : (found : Found) (number : ℕ)
       → ((o : Options) (unread : List ℕ) (h : List Happening) → ConnStands o old.conn unread h
       → (is_some (needed o h number) ≡ true)

@@ -1,4 +1,4 @@
--- The openings of all tapes come to their end.
+-- How the openings of all tapes end.
 use Rattle.std.proofs.Common.{◌≡◌, ℕ, ◌^◌, ◌<◌, ◌≤◌, false, Option, None, Some, List, [], ◌∷◌, ◌++◌, length, map, refl}
 use Rattle.std.proofs.Common.{sym, ap, ◌∙◌, subst, arith, append-nil}
 use Rattle.std.specs.List.{AllByRecursion, AllZip, slice_get}
@@ -80,7 +80,7 @@ closes past halt stopped disks t stands =
 module _ (past : Past) (prefix : List PeerPast) (sound : IsSound (with_peers past prefix))
     (legal : AreLegal past.intake.history.base past.intake.history.notes) (old new : Log) (log : old ≡ past.intake.log)
     (moments : TapeLeaves (Survives past.intake.history) old new) where
-  -- what a stop leaves of the intake's disks in its opening
+  -- what a stop leaves of the intake's disks during its opening
   leaves : LedgersLeave (KeepsLines past.intake.history prefix) past.intake.log new
   leaves = subst (λ (l : Log). LedgersLeave (KeepsLines past.intake.history prefix) l new) log
       (TapeLeaves-weaker (Survives past.intake.history) (HasLedger (KeepsLines past.intake.history prefix))
@@ -154,7 +154,7 @@ module _ {D : Type 0} {g : Ghosts D} where
         free = free;
       }
 
-  -- what a list of peers that is behind none is
+  -- if no peer is left, the prefix is all of them
   all_prefix : (past : Past) (opened : List (Peer D g)) (t : HasOpened past opened []) → t.prefix ++ t.behind ≡ t.prefix
   all_prefix past opened t = ap (λ l. t.prefix ++ l) (none_stay t.behind t.stay) ∙ append-nil t.prefix
 
@@ -250,7 +250,7 @@ module _ {D : Type 0} {g : Ghosts D} where
         };
       }
 
--- ---- what was tried, at its beginning and its end
+-- ---- the openings at their beginning and at their end
 
 none_of : {A : Type 0} (xs : List A) → length xs ≡ 0 → xs ≡ []
 none_of [] none = refl

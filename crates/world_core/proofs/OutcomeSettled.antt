@@ -49,7 +49,7 @@ tells_push was mid outputs more same is =
 
 -- ---- the peer
 
--- a debt that is settled is no more held
+-- a debt that is settled is no longer held
 settled_leaves : (s : Settled) (n id : ℕ) (peer : PeerPast) → IsHeldBy peer.places id n
     → IsHeldBy (settled_as s n peer).places id n → ⊥
 settled_leaves (Answered code) n id peer held is = let none = gone_none peer.places n in cc
@@ -60,7 +60,7 @@ settled_leaves (Later moment) n id peer held is =
 settled_leaves Back n id peer held is = let there = moved_here peer.places n Ready (Held id) held in
     let same : Some Ready ≡ Some (Held id) = sym there ∙ is in cc
 
--- and any other keeps its place
+-- any other debt keeps its place
 pub settled_others : (s : Settled) (n : ℕ) (peer : PeerPast) (m : ℕ) → (m ≡ n → ⊥)
     → place_at (settled_as s n peer).places m ≡ place_at peer.places m
 settled_others (Answered code) n peer m apart = gone_other peer.places n m apart
@@ -74,7 +74,6 @@ settled_conf (Dropped cause) n peer = refl
 settled_conf (Later moment) n peer = refl
 settled_conf Back n peer = refl
 
--- its settings stay
 pub conf_settled : (now : ℕ) (outcome : Outcome) (peer : PeerPast) → (settled now outcome peer).conf ≡ peer.conf
 conf_settled now outcome peer = settled_conf (settling peer now outcome) (key_in outcome) peer
 
@@ -188,7 +187,7 @@ module _ {D : Type 0} {g : Ghosts D} where
         };
       }
 
-  -- ---- it was refused
+  -- ---- the outcome was refused
 
   refused_end : (past : PeerPast) (old : Peer D g) (s : Settled) (fault : StationFault) (outputs : Fault)
       → TapeStands past.tape (tape_of old.station)

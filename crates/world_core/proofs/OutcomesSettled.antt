@@ -1,4 +1,4 @@
--- What follows a step on a connection: its outcomes go to the peer one after another, and are reported.
+-- The outcomes of a step on a connection go to the peer one after another, and are reported.
 use Rattle.std.proofs.Common.{◌≡◌, ℕ, List, [], ◌∷◌, ◌++◌, map, refl, sym, ap, ◌∙◌, subst, append_assoc}
 use Rattle.std.proofs.Common.{append-nil}
 use Rattle.std.proofs.lemmas.List.{map_push}
@@ -21,7 +21,7 @@ out_more : (done : List Outcome) (outcome : Outcome) (conn : ConnPast)
 out_more [] outcome conn = refl
 out_more (o ∷ done) outcome conn = out_more done outcome (one_out conn)
 
--- what is reported of an outcome rests on its peer's settings alone
+-- what is reported of an outcome depends only on its peer's settings
 said_same : (id now : ℕ) (one other : PeerPast) (outcome : Outcome) → one.conf ≡ other.conf
     → settled_said id now one outcome ≡ settled_said id now other outcome
 said_same id now one other outcome same = ap (λ (c : PeerConf). said_at c) same

@@ -12,7 +12,7 @@ use Rattle.world_core.specs.Output.{SentLine, Said, lines_from, lines_in, said_o
 use Rattle.world_core.specs.Pairs.{Tells}
 use Rattle.world_core.specs.declared.output.Output.{Output}
 
--- a whole line, and those behind it
+-- a whole line, and the lines after it
 begun : (line before behind : List ℕ) → IsUnended before
     → lines_from line (before ++ 10 ∷ behind) ≡ without_cr (line ++ before) ∷ lines_in behind
 begun line [] behind each = ap (λ l. without_cr l ∷ lines_in behind) (sym (append-nil line))
@@ -29,7 +29,7 @@ none line (x ∷ octets) each =
     rw (ne_eqb x 10 (All-head (λ octet. octet ≢ 10) x octets each))
     (none (line ++ x ∷ []) octets (All-tail (λ octet. octet ≢ 10) x octets each))
 
--- the first line, and those behind it
+-- the first line, and the lines after it
 first_of_lines : (octets line behind : List ℕ) → BeginsWithLine octets line behind
     → lines_in octets ≡ without_cr line ∷ lines_in behind
 first_of_lines octets line behind begins = ap (λ l. lines_in l) begins.0 ∙ begun [] line behind begins.1
@@ -37,7 +37,7 @@ first_of_lines octets line behind begins = ap (λ l. lines_in l) begins.0 ∙ be
 pub no_line : (octets : List ℕ) → IsUnended octets → lines_in octets ≡ []
 no_line octets each = none [] octets each
 
--- one line more is reported, the first of those that are left
+-- one more line is reported, the first of those that are left
 pub tells_line : (id : ℕ) (outputs new : List Output) (one : Output) (rest line behind : List ℕ) → new ≡ outputs
     ++ one ∷ []
     → said_of one ≡ SentLine id (without_cr line) → BeginsWithLine rest line behind
@@ -50,7 +50,7 @@ pub some_end : (b : Bool) (n end : ℕ) → cond b (Some n) None ≡ Some end �
 some_end true n end is = (refl, cc)
 some_end false n end is = let never : None ≡ Some end = is in cc
 
--- where one is found, there is one
+-- a position is within the list
 pub position_within : {A : Type 0} (p : A → Bool) (xs : List A) (n : ℕ) → position p xs ≡ Some n → n < length xs
 position_within p xs n is =
     let at = some_end (nat_lt (position_or_len p xs) (length xs)) (position_or_len p xs) n is in
@@ -58,7 +58,7 @@ position_within p xs n is =
 
 -- ---- what is reported
 
--- what is reported in two parts
+-- a report in two parts
 pub tells_both : (was mid outputs : List Output) (one other : List Said) → Tells was one mid → Tells mid other outputs
     → Tells was (one ++ other) outputs
 tells_both was mid outputs one other first second =

@@ -1,4 +1,4 @@
--- What is reported behind the outcomes of a step on a connection, and its output counts as sent.
+-- What is reported after the outcomes of a step on a connection; and its output counts as sent.
 use Rattle.std.proofs.Common.{◌≡◌, ℕ, Bool, true, false, Option, List, [], ◌++◌, length, map, refl, sym, ap, ◌∙◌}
 use Rattle.std.proofs.Common.{subst, inl, append-nil}
 use Rattle.std.specs.Prelude.{if◌then◌else◌, is_none, is_some}
@@ -30,7 +30,7 @@ left_step : (closed : Bool) (conn : Holding) (unread : List ℕ) → HoldsBack c
 left_step true conn unread none = sym none
 left_step false conn unread short = refl
 
--- a connection holds none back once closed
+-- once closed, a connection holds none back
 pub left_same : (options : Options) (conn : Holding) (unread : List ℕ) (h : List Happening)
     → ConnStands options conn unread h
     → left_behind options unread h ≡ unread
@@ -44,11 +44,11 @@ module _ {D : Type 0} {g : Ghosts D} where
     abbrev out : ConnPast
     out = settled_out (options_of past.conf) conn
 
-    -- the connection behind its outcomes
+    -- the connection after its outcomes
     stands_out : ConnStands (options_of past.conf) mid_c.conn out.unread out.transcript
     stands_out = subst (λ (c : PeerConf). HoldsTranscript c out mid_c) all.some.same_conf all.some.stand.holds
 
-    -- memory is refused behind them
+    -- memory is refused after them
     pub tell_refused : (fault : Fault) → fault ≡ NoMemory → FollowedNot id now conn past fault mid_c peer
     tell_refused fault is = record {
       later_conn = out;

@@ -1,4 +1,4 @@
--- A connection of a world and its peer, taken out and put back: what they make is a step of the world.
+-- A connection of a world and its peer, taken out and put back: what they do is a step of the world.
 use Rattle.std.proofs.Common.{◌≡◌, ◌↔◌, ℕ, zero, suc, ◌<◌, ◌≤◌, Bool, true, false, cond, Option, None, Some, List, []}
 use Rattle.std.proofs.Common.{◌∷◌, length, get_or, map, refl, sym, ap, ◌∙◌, subst, inl, inr, arith}
 use Rattle.std.specs.Prelude.{◌==◌, Contains, if◌then◌else◌, option_map, slice_get}
@@ -47,7 +47,7 @@ within_there conns j e there =
     slice_get_within (map (λ (x : Entry). x.0) conns) j e.0
     (slice_get-map (λ (x : Entry). x.0) conns j ∙ ap (option_map (λ (x : Entry). x.0)) there)
 
--- those that stand elsewhere have other numbers
+-- those at other places have other numbers
 apart_there : (conns : List Entry) → IsStrictlyIncreasing (map (λ (x : Entry). x.0) conns)
     → (i j : ℕ) (one other : Entry)
     → slice_get conns i ≡ Some one → slice_get conns j ≡ Some other → (j ≡ i → ⊥) → other.0 ≡ one.0 → ⊥
@@ -81,7 +81,7 @@ first_there (e ∷ conns) (suc i) id conn here before =
     ap (λ (b : Bool). cond b (Some e.1) (conn_at conns id)) (ne_eqb e.0 id (before 0 e (omega arith) refl))
     ∙ first_there conns i id conn here (λ j x less there. before (suc j) x (omega (arith, less)) there)
 
--- the connection that stands there is found by its number
+-- the connection at this place is found by its number
 pub conn_there : (conns : List Entry) → IsStrictlyIncreasing (map (λ (x : Entry). x.0) conns)
     → (i id : ℕ) (conn : ConnPast)
     → slice_get conns i ≡ Some (id, conn) → conn_at conns id ≡ Some conn
@@ -115,14 +115,14 @@ put_one (e ∷ conns) (suc i) id was conn here none =
     ∙ ap (λ l. e ∷ l) (put_one conns i id was conn here
     (λ j x apart there. none (suc j) x (λ is. apart (omega (arith, is))) there))
 
--- of the connections the one that stands there becomes the new one
+-- the connection at this place is replaced
 pub put_there : (conns : List Entry) → IsStrictlyIncreasing (map (λ (x : Entry). x.0) conns)
     → (i id : ℕ) (was conn : ConnPast)
     → slice_get conns i ≡ Some (id, was) → map (put id conn) conns ≡ set conns i (id, conn)
 put_there conns rising i id was conn here =
     put_one conns i id was conn here (λ j e apart there. apart_there conns rising i j (id, was) e here there apart)
 
--- one of another number is found as before
+-- a connection of another number is found as before
 put_step : (b : Bool) (e : Entry) (conns : List Entry) (id other : ℕ) (conn : ConnPast) → (e.0 == id) ≡ b
     → (other ≡ id → ⊥)
     → conn_at (map (put id conn) conns) other ≡ conn_at conns other
@@ -143,7 +143,7 @@ put_other (e ∷ conns) id other conn apart =
 abbrev IsDistinctAt : List ℕ → Type 0
 IsDistinctAt numbers = IsDistinct (λ one other. one == other) numbers
 
--- ---- a peer of the same settings stands for the same connections
+-- ---- a peer with the same settings stands for the same connections
 
 peer_stays : (peers : List PeerPast) (rank at : ℕ) (was now peer : PeerPast) → slice_get peers rank ≡ Some was
     → now.conf ≡ was.conf

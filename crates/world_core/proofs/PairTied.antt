@@ -1,4 +1,4 @@
--- What happens on a connection keeps it tied to its peer, also if an outcome of it waits.
+-- Whatever happens on a connection keeps it tied to its peer, also if one of its outcomes waits.
 use Rattle.std.proofs.Common.{◌≡◌, inl, inr, ℕ, zero, suc, ◌+◌, ◌≤◌, Bool, true, false, Option, None, Some, List, []}
 use Rattle.std.proofs.Common.{◌∷◌, ◌++◌, length, refl, sym, ap, ◌∙◌, subst, arith}
 use Rattle.std.specs.Prelude.{◌==◌, Contains, if◌then◌else◌, slice_get}
@@ -24,7 +24,7 @@ use Rattle.world_core.specs.declared.peer.Peer.{Peer}
 use Rattle.world_core.proofs.HeldOrOutcome.{GoesOn, goes_offered, outcomes_are, outcomes_offered, same_numbers}
 use Rattle.world_core.proofs.HeldNumbers.{contains_first, contains_less, contains_more}
 
--- ---- numbers by how often they stand
+-- ---- how often each number occurs
 
 has_step : (b : Bool) (x m : ℕ) (xs : List ℕ) → (x == m) ≡ b → 1 ≤ (if b then 1 else 0) + times xs m
     → (1 ≤ times xs m → Contains xs m) → Contains (x ∷ xs) m
@@ -88,7 +88,7 @@ times_distinct [] distinct m = omega arith
 times_distinct (x ∷ xs) distinct m =
     once_step (x == m) x m xs refl (none_times x xs distinct.0) (times_distinct xs distinct.1 m)
 
--- the same numbers as often
+-- the same numbers, as often
 pub tied_goes : (id : ℕ) (conn later : ConnPast) (peer : PeerPast)
     → ((m : ℕ) → times (numbers_at (options_of peer.conf) later) m
     ≡ times (numbers_at (options_of peer.conf) conn) m)
@@ -110,7 +110,7 @@ none_of xs n absent = elim (cases_lt 0 (times xs n)) [
 head_times : (n m : ℕ) (xs : List ℕ) → Contains xs m → 1 ≤ times (n ∷ xs) m
 head_times n m xs has = times_has (n ∷ xs) m (contains_more xs n m has)
 
--- one number more, which the connection holds now, and which none held
+-- one more number, which the connection now holds, and which no connection held
 pub tied_more : (id n : ℕ) (conn later : ConnPast) (peer now : PeerPast)
     → ((m : ℕ) → times (numbers_at (options_of now.conf) later) m
     ≡ times (n ∷ numbers_at (options_of peer.conf) conn) m)
@@ -154,7 +154,7 @@ get_more [] ys n x is = let never : None ≡ Some x = is in cc
 get_more (y ∷ xs) ys zero x is = is
 get_more (y ∷ xs) ys (suc n) x is = get_more xs ys n x is
 
--- what a connection stands for can have come about, and no more is taken than came out
+-- a connection stands only for what can have come about, and no more outcomes are taken than came out
 pub stands_arise : (o : Options) (c : Holding) (unread : List ℕ) (h : List Event) → ConnStands o c unread h
     → Arises o h × (taken h ≤ length (outcomes o h))
 unfolding ConnStands

@@ -35,7 +35,7 @@ empty : {A : Type 0} (l : List A) → length l ≡ 0 → l ≡ []
 empty [] e = refl
 empty (x ∷ l) e = absurd (omega (arith, e))
 
--- the moments of a call, told by ledgers
+-- the moments of a call, by the ledgers that a stop leaves
 pub keeps_moments : (past : PeerPast) (old new : Log) → TapeLeaves (Survives past.tape.history) old new
     → LedgersLeave (KeepsNotes past) old new
 keeps_moments past old new moments =
@@ -50,11 +50,11 @@ module _ {D : Type 0} {g : Ghosts D} where
   pub tape_broken : (past : TapePast) (tape : Tape D g) → TapeStands past tape → IsBroken tape → past.broken ≡ true
   tape_broken past tape stands broken = sym stands.broken ∙ broken
 
-  -- ---- what a flush of a tape that works is reported by
+  -- ---- how a flush of a tape that works is reported
 
   module _ (lies : LiesLeft g) (past : TapePast) (tape : Tape D g) (stands : TapeStands past tape)
       (works : IsBroken tape → ⊥) where
-    -- it is full exactly where what lies on its disks and its history say so
+    -- it is full exactly if what lies on its disks and its history say so
     pub full_there : IsFullBy past.log past.history → IsFull tape
     full_there full = (full_by tape past.history lies stands.stands works).1
         (subst (λ (log : Log). IsFullBy log past.history) (sym stands.log) full)
@@ -63,7 +63,7 @@ module _ {D : Type 0} {g : Ghosts D} where
     full_here full = subst (λ (log : Log). IsFullBy log past.history) stands.log
         ((full_by tape past.history lies stands.stands works).0 full)
 
-    -- none pends at the tape exactly where none does in its history
+    -- no note pends at the tape exactly if none does in its history
     pub none_there : pending_notes past.history ≡ [] → pending_of tape ≡ 0
     none_there none = omega (arith, pends_by tape past.history stands.stands works, ap length none)
 
@@ -102,7 +102,7 @@ module _ {D : Type 0} {g : Ghosts D} where
       record { stands = is; log = refl; faults = outputs ∙ stands.faults; broken = not_true (broken_of new) works },
     )
 
-    -- a disk told a fault
+    -- a disk reported a fault
     pub broke_as : (IsBroken old → ⊥) → IsBroken new → OneHasRisen (faults_of old) (faults_of new)
         → StandsFor new past.history
         → Breaks P past (record { history = past.history; log = log_of new; faults = faults_of new; broken = true })
@@ -129,7 +129,7 @@ same_truth true other both = both.0 refl
 same_truth false true both = sym (both.1 refl)
 same_truth false false both = refl
 
--- a tape that was read, as it is now
+-- the tape after it was read
 abbrev pub read_now : {D : Type 0} {g : Ghosts D} → TapePast → Tape D g → TapePast
 read_now past tape = record past { faults = faults_of tape }
 
@@ -180,7 +180,7 @@ module _ {D : Type 0} {g : Ghosts D} where
   module _ (lies : LiesLeft g) (P : State
       → Type 0) (past : TapePast) (old new : Station D g) (stands : TapeStands past old.tape)
       (moments : LedgersLeave P (log_of old.tape) (log_of new.tape)) (is : StandsFor new.tape past.history) where
-    -- something pends, and there is room for it
+    -- some notes pend, and there is room for them
     may_flush : (IsBroken old.tape → ⊥) → (IsFull old.tape → ⊥) → (pending_of old.tape ≡ 0 → ⊥) → MayFlush past
     may_flush works fits some = (
       λ none. some (none_there lies past old.tape stands works none),

@@ -1,4 +1,4 @@
--- Names and counts of peers, one after another.
+-- Names and counts of peers, one peer after another.
 use Rattle.std.proofs.Common.{◌≡◌, ℕ, zero, suc, ◌+◌, ◌<◌, Bool, true, false, ltb, List, [], ◌∷◌, ◌++◌, length, get_or}
 use Rattle.std.proofs.Common.{take, drop, map, refl, sym, ap, ◌∙◌, subst, arith, append-nil}
 use Rattle.std.specs.List.{AllZip}
@@ -20,7 +20,7 @@ use Rattle.world_core.specs.declared.peer.Peer.{Peer}
 use Rattle.world_core.specs.declared.report.PeerTotals.{PeerTotals}
 use Rattle.world_core.proofs.RelatedLists.{zip_equal}
 
--- one more
+-- one more name
 pub name_more : {A B C : Type 0} (f : A → B) (g : C → B) (xs : List A) (i : ℕ) (x : A) (done now : List C) (y : C)
     → now ≡ done ++ y ∷ []
     → g y ≡ f x → x ≡ get_or xs i x → i < length xs → map g done ≡ map f (take i xs)
@@ -46,14 +46,14 @@ module _ {A B : Type 0} (f : A → B) where
   map_get (a ∷ xs) zero d = refl
   map_get (a ∷ xs) (suc i) d = map_get xs i d
 
--- one in the place of another that looks the same
+-- an element replaced by another that looks the same
 pub same_put : {A B : Type 0} (f : A → B) (xs : List A) (i : ℕ) (x : A) → f x ≡ f (get_or xs i x)
     → map f (set xs i x) ≡ map f xs
 same_put f [] i x same = refl
 same_put f (a ∷ xs) zero x same = ap (λ b. b ∷ map f xs) same
 same_put f (a ∷ xs) (suc i) x same = ap (λ l. f a ∷ l) (same_put f xs i x same)
 
--- one more of a list is as another's
+-- one more element of a list looks like the other list's
 pub take_put : {A B C : Type 0} (f : A → C) (g : B → C) (xs : List A) (ys : List B) (i : ℕ) (x : A) (y : B)
     → i < length xs → i < length ys
     → f x ≡ g y → y ≡ get_or ys i y → take i (map f xs) ≡ take i (map g ys)
@@ -66,7 +66,7 @@ take_put f g xs ys i x y within among same here so_far =
     ∙ sym (take_more (map g ys) i (g y) (omega (arith, among, length-map ys g)))
 
 module _ {D : Type 0} {g : Ghosts D} where
-  -- the name that stands before a count is the peer's
+  -- the name before a count is the peer's
   pub same_name : (totals : List PeerTotals) (peers : List (Peer D g)) (i : ℕ) (x : PeerTotals) (p : Peer D g)
       → map (λ (peer : PeerTotals). peer.name) totals ≡ map (λ (peer : Peer D g). peer.conf.name) peers
       → i < length totals → i < length peers
@@ -80,7 +80,7 @@ module _ {D : Type 0} {g : Ghosts D} where
       let rest : map (λ (peer : PeerTotals). peer.name) totals ≡ map (λ (peer : Peer D g). peer.conf.name) peers = cc in
       same_name totals peers i x p rest (omega (arith, within)) (omega (arith, among)) at here
 
-  -- one more is counted
+  -- one more peer is counted
   pub counted_more : (initial totals : List PeerTotals) (peers : List (Peer D g)) (i : ℕ) (was now : PeerTotals)
       (peer : Peer D g)
       → map (λ (p : PeerTotals). p.name) totals ≡ map (λ (p : PeerTotals). p.name) initial
@@ -118,7 +118,7 @@ below n m is = ltb-true n m (sym is)
 pub not_below : (n m : ℕ) → false ≡ ltb n m → n < m → ⊥
 not_below n m is less = let yes = lt-ltb n m less in cc
 
--- what is written back in the place of all
+-- what is written back in place of all
 pub written_back : {A : Type 0} (n : ℕ) (new old : List A) → length new ≡ length old → n ≡ length old
     → take n (new ++ drop (length new) old) ≡ new
 written_back n new old same long =
@@ -127,7 +127,7 @@ written_back n new old same long =
     ∙ take_all n new (omega (arith, same, long))
 
 module _ {D : Type 0} {g : Ghosts D} where
-  -- what stands for peers has their counts
+  -- values that stand for peers have their counts
   pub counts_same : (pasts : List PeerPast) (peers : List (Peer D g)) → AllZip PeerStands pasts peers
       → map counted peers ≡ map (λ (peer : PeerPast). (peer.conf.name, totals_of (ledger_at peer.tape))) pasts
   counts_same pasts peers all =

@@ -1,4 +1,4 @@
--- What happens to one peer of all, of which one connection's numbers change: the rest stays, and whatever a stop
+-- What happens to one peer among all, at which one connection's numbers change: the rest stays, and whatever a stop
 -- leaves is safe.
 use Rattle.std.proofs.Common.{◌≡◌, ◌↔◌, ℕ, zero, suc, ◌≤◌, Bool, true, false, None, Some, List, [], ◌∷◌, ◌++◌, length}
 use Rattle.std.proofs.Common.{take, refl, sym, ap, ◌∙◌, subst, inl, inr, arith, length-append}
@@ -55,8 +55,8 @@ get_apart (a ∷ xs) (suc i) (suc j) y apart = get_apart xs i j y (λ same. apar
 
 -- ---- one peer
 
--- What a connection does to its peer: its settings stay, its tape has the same happened to it and has notes more,
--- made by no line; and what other connections hold stays.
+-- What a connection does to its peer: the settings stay, nothing has happened to the tape's disks, and the tape has
+-- more notes, made by no line; what other connections hold stays.
 pub record PeerKeeps (id : ℕ) (was now : PeerPast) : Type 0 where
   pub conf : now.conf ≡ was.conf
   pub parted : now.parted ≡ was.parted
@@ -95,7 +95,7 @@ keeps_then id was mid now one two = record {
   );
 }
 
--- one note more
+-- one more note
 prefix_noted : (h : History) (note : Note) (state : State) → IsPrefix h state → IsPrefix (noted h note) state
 prefix_noted h note state prefix =
     let same : take prefix.count (h.notes ++ note ∷ []) ≡ take prefix.count h.notes =
@@ -108,7 +108,7 @@ prefix_noted h note state prefix =
       is = prefix.is ∙ ap (after h.base) (sym same);
     }
 
--- where only one number moves, which this connection held or holds, what others hold stays
+-- if only one number moves, which this connection held or holds, other connections hold what they held
 others_stay : (p q : Places) (id n other number : ℕ) → (other ≡ id → ⊥) → (IsHeldBy p other n → ⊥)
     → (IsHeldBy q other n → ⊥)
     → ((m : ℕ) → (m ≡ n → ⊥) → place_at q m ≡ place_at p m) → IsHeldBy q other number ↔ IsHeldBy p other number
@@ -140,7 +140,7 @@ moved_only : (p : Places) (n : ℕ) (q x : DebtPlace) → place_at (moved p n q)
 moved_only [] n q x is = let never : None ≡ Some x = is in cc
 moved_only (e ∷ p) n q x is = moved_only_step p e n q x (e.0 == n) refl (λ there. moved_only p n q x there) is
 
--- a debt that is settled is held by none
+-- no connection holds a debt that is settled
 settled_free : (s : Settled) (n id other : ℕ) (peer : PeerPast) → IsHeldBy peer.places id n
     → IsHeldBy (settled_as s n peer).places other n → ⊥
 settled_free (Answered code) n id other peer held is = let none = gone_none peer.places n in cc
@@ -276,12 +276,12 @@ module _ (past : Past) (rank id : ℕ) (was now : PeerPast) (here : slice_get pa
         (all_at (HasParted number) past.peers rank was (sound.parted number is) here (sym keeps.parted ∙ e)));
   }
 
--- a peer in the place of one that was put there
+-- a peer in place of one that was itself put there
 pub with_twice : (past : Past) (rank : ℕ) (mid now : PeerPast)
     → with_peer (with_peer past rank mid) rank now ≡ with_peer past rank now
 with_twice past rank mid now = ap (λ peers. record past { peers = peers }) (set_twice past.peers rank mid now)
 
--- an element in the place of itself
+-- an element in place of itself
 pub set_same : {A : Type 0} (xs : List A) (i : ℕ) (x : A) → slice_get xs i ≡ Some x → set xs i x ≡ xs
 set_same [] i x here = refl
 set_same (a ∷ xs) zero x here = let same : a ≡ x = cc in ap (λ b. b ∷ xs) (sym same)
@@ -293,7 +293,7 @@ with_same past rank was here = ap (λ peers. record past { peers = peers }) (set
 
 -- ---- events at one peer
 
--- these events lead there, and keep what others have
+-- these events lead from one peer to the other, and other connections keep what they hold
 pub record Leads (past : Past) (rank id : ℕ) (was now : PeerPast) (events : List Event) : Type 0 where
   pub does : AllDo past events (with_peer past rank now)
   pub keeps : PeerKeeps id was now
@@ -306,7 +306,7 @@ module _ (past : Past) (rank id : ℕ) (was : PeerPast) (here : slice_get past.p
     keeps = keeps_same id was;
   }
 
-  -- one event more, behind which the peer is so
+  -- one more event, after which the peer is this
   pub leads_on : (events : List Event) (event : Event) (mid now : PeerPast) → Leads past rank id was mid events
       → PeerKeeps id mid now
       → Does event (with_peer past rank mid) (with_peer past rank now)
@@ -365,7 +365,7 @@ module _ (past : Past) (rank id : ℕ) (was : PeerPast) (here : slice_get past.p
             ∙ ap (λ (p : PeerPast). with_peer (with_peer past rank mid) rank p) is.changed;
       })
 
-  -- outcomes one after another, behind other events
+  -- outcomes one after another, after other events
   pub leads_settled : (now : ℕ) (outcomes : List Outcome) (later : PeerPast) → AllSettleAt id now was outcomes later
       → Leads past rank id was later (settle_events rank id now outcomes)
   leads_settled now _ _ NoneSettled = leads_nowhere

@@ -1,4 +1,4 @@
--- One opening more, and one that is refused.
+-- One more opening, or one that is refused.
 use Rattle.std.proofs.Common.{◌≡◌, ℕ, ◌==◌, ◌<◌, Bool, true, false, if◌then◌else◌, Option, None, Some, List, [], ◌∷◌}
 use Rattle.std.proofs.Common.{◌++◌, length, map, refl, sym, ap, ◌∙◌, subst, arith, append_assoc, length-append}
 use Rattle.std.proofs.lemmas.List.{map_push}
@@ -26,7 +26,7 @@ use Rattle.world_core.proofs.PeersOpened.{sound_opened, take_places}
 use Rattle.world_core.proofs.RelatedLists.{zip_length, zip_push}
 use Rattle.peer_queue.specs.Words.{tape_of}
 
--- none of what is ready is held
+-- no connection holds what is ready
 pub none_held : (numbers : List ℕ) (id number : ℕ) → place_at (all_ready numbers) number ≡ Some (Held id) → ⊥
 none_held [] id number is = cc
 none_held (n ∷ ns) id number is = by_test (n == number) (none_held ns id number) is
@@ -39,7 +39,7 @@ none_held (n ∷ ns) id number is = by_test (n == number) (none_held ns id numbe
 pub opened_free : (peer : PeerPast) (tape : TapePast) → HasNoneHeld (opened_peer peer tape)
 opened_free peer tape = λ id number. none_held (keys (ledger_at tape)) id number
 
--- what had stopped before has stopped at rest
+-- what had stopped before stops at rest as it was
 pub stays_stopped : (past : PeerPast) (peer : StoppedPeer) → StoppedStands past peer
     → StoppedStands (left_peer AtRest past) peer
 stays_stopped past peer stands = record {
@@ -141,7 +141,7 @@ module _ {D : Type 0} {g : Ghosts D} (past : Past) (prefix behind : List PeerPas
         intake = refl;
       }
 
--- ---- what was tried so far
+-- ---- the openings so far
 
 halted_more : (past : Past) (halt : Halt) (stopped rest : List StoppedPeer) (peer : StoppedPeer) (under_way : Past)
     (prefix behind : List PeerPast)

@@ -1,4 +1,4 @@
--- What a line at a station makes of its peer.
+-- What a line owed at a station makes of its peer.
 use Rattle.std.proofs.Common.{◌≡◌, ◌≢◌, ◌↔◌, ℕ, ◌<◌, ◌≤◌, Bool, true, false, None, List, if◌then◌else◌, nat_lt}
 use Rattle.std.proofs.Common.{refl, sym, ap, ◌∙◌, subst, inl, inr}
 use Rattle.std.proofs.lemmas.Bool.{cases_lt, lt-ltb, le-ltb}
@@ -37,7 +37,7 @@ use Rattle.world_core.specs.declared.peer.Peer.{Peer}
 use Rattle.world_core.proofs.DebtPlaces.{no_place}
 use Rattle.world_core.proofs.PeerCalls.{same_tape, same_truth, tape_broken, tape_works}
 
--- What a line of this number is at a peer whose ledger has its source's mark, and its key there.
+-- What a line of this number is at a peer, by its source's mark in the ledger; and its key, by the ledger.
 abbrev answer_by : (State → ℕ) → ℕ → PeerPast → Owed
 answer_by mark number past = if nat_lt (mark (ledger_at past.tape)) number then New else Already
 
@@ -50,7 +50,7 @@ new_where : (mark : State → ℕ) (number : ℕ) (past : PeerPast) (above : Boo
 new_where mark number past above e = ap (λ (b : Bool). if b then New else Already) e
 
 module _ {D : Type 0} {g : Ghosts D} where
-  -- one note more
+  -- one more note
   pub noted_tape : (past : TapePast) (old new : Station D g) (note : Note) → TapeStands past old.tape
       → Notes old new note
       → TapeStands (noted_at past note) new.tape
@@ -76,7 +76,7 @@ module _ {D : Type 0} {g : Ghosts D} where
     parted = parts ∙ stands.parted;
   }
 
-  -- there is room where the tape has it
+  -- there is room if the tape says so
   pub room_here : (past : TapePast) (tape : Tape D g) → TapeStands past tape → (IsBroken tape → ⊥)
       → pending_of tape ≢ most_pending → HasRoom past
   room_here past tape stands works room = λ full. room (pends_by tape past.history stands.stands works ∙ full)
@@ -86,13 +86,13 @@ module _ {D : Type 0} {g : Ghosts D} where
       → HasRoom past → ⊥
   no_room_here past tape stands works full = λ room. room (sym (pends_by tape past.history stands.stands works) ∙ full)
 
-  -- the ledger of a tape keeps what each ledger does
+  -- the ledger of a tape is whole, as that of any legal history is
   ledger_whole : (tape : Tape D g) (h : History) → StandsFor tape h → IsWhole (ledger_of tape)
   ledger_whole tape h stands =
       subst IsWhole (sym stands.ledger)
       (whole-after h.base h.notes stands.are_legal.notes_are stands.are_legal.legal stands.are_legal.whole)
 
-  -- what may be noted next has no place
+  -- the number that may be noted next has no place
   unplaced : (number : ℕ) (past : PeerPast) (peer : Peer D g) → PeerStands past peer
       → placed (places_of peer.station) ≡ keys (ledger_of (tape_of peer.station))
       → IsNext (marks_of (ledger_of (tape_of peer.station))) number → place_at past.places number ≡ None
@@ -142,7 +142,7 @@ module _ {D : Type 0} {g : Ghosts D} where
           stands = stands;
         }
 
-    -- what a station answered
+    -- what a station returned
     pub owed_answered : (past : PeerPast) (token id : List ℕ) (old new : Peer D g) (owed : Owed)
         → PeerStands past old
         → (IsBroken (tape_of old.station) → ⊥)
@@ -181,7 +181,7 @@ module _ {D : Type 0} {g : Ghosts D} where
         owed_old past token id new stays (subst (λ (s : Station D g). IsBroken s.tape → ⊥) (sym st) works)
         (subst (λ (s : Station D g). number ≤ mark (ledger_of s.tape)) (sym st) (below refl))
 
-  -- ---- refused
+  -- ---- the line is refused
 
   module _ (past : TapePast) (old : Station D g) (note : Note) (stands : TapeStands past old.tape) where
     unowed_tape : (fault : TapeFault) (outputs : Fault) → outputs ≡ fault_of fault → (IsBroken old.tape → ⊥)

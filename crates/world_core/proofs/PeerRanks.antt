@@ -1,4 +1,4 @@
--- The rank of a peer's name, and a stop that is armed.
+-- The rank of a peer's name, and how a stop is armed.
 use Rattle.std.proofs.Common.{◌≡◌, ◌+◌, ◌<◌, ℕ, zero, suc, Bool, not, List, [], ◌∷◌, length, map, Option, None, Some}
 use Rattle.std.proofs.Common.{cond, ltb, refl, sym, ap, ◌∙◌, subst, arith}
 use Rattle.std.specs.Prelude.{option_map}
@@ -20,7 +20,7 @@ use Rattle.world_core.specs.declared.world.Stage.{Stage}
 use Rattle.world_core.specs.declared.world.Stage.TheVariants.{Running, Stopped}
 use Rattle.world_core.specs.declared.world.World.{World}
 
--- of things and of their parts as many pass at the front
+-- in a list, and in the list of its parts, the prefix that passes a test is of the same length
 prefix-map : {A B : Type 0} (part : A → B) (test : B → Bool) (things : List A)
     → prefix_len (λ x. test (part x)) things ≡ prefix_len test (map part things)
 prefix-map part test [] = refl
@@ -108,7 +108,7 @@ armed_world old new life peer call choice rank some stands is stage armed connec
   };
 }
 
--- a stop at call 0 is one at rest
+-- a stop at call 0 is a stop at rest
 pub rested : (peer : Option (List ℕ)) (call : ℕ) (choice : Choice) (life : Life) (outputs : List Output) (world : World)
     → call ≡ 0
     → Made TakesRest life outputs world → Made (TakesStop peer call choice) life outputs world

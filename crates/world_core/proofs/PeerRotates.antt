@@ -46,7 +46,7 @@ segment_on log same generation size is has = (size, subst (λ (l : Log). HasSegm
 module _ {D : Type 0} {g : Ghosts D} where
   module _ (lies : LiesLeft g) (past : TapePast) (tape : Tape D g) (stands : TapeStands past tape)
       (works : IsBroken tape → ⊥) where
-    -- the segment that lives on its disks
+    -- the live segment on its disks
     lives_by : LivesBy past (generation_of tape)
     lives_by =
         let there = segment_on (log_of tape) past.log (generation_of tape) _ stands.log
@@ -63,7 +63,7 @@ module _ {D : Type 0} {g : Ghosts D} where
   module _ (lies : LiesLeft g) (P : State
       → Type 0) (past : TapePast) (old new : Tape D g) (stands : TapeStands past old)
       (moments : LedgersLeave P (log_of old) (log_of new)) where
-    -- a rotation that answered this generation
+    -- a rotation that returned this generation
     pub rotated_as : (generation : ℕ) → (IsBroken old → ⊥) → (IsBroken new → ⊥) → generation_of old ≢ 2 ^ 64 - 1
         → (RotatesTooLong old → ⊥)
         → generation ≡ generation_of old + 1 → generation_of new ≡ generation → StandsFor new (flushed past.history)
@@ -97,7 +97,7 @@ module _ {D : Type 0} {g : Ghosts D} where
   module _ (lies : LiesLeft g) (P : State
       → Type 0) (past : TapePast) (old new : Station D g) (stands : TapeStands past old.tape)
       (moments : LedgersLeave P (log_of old.tape) (log_of new.tape)) (is : StandsFor new.tape past.history) where
-    -- it was refused, and what it writes anew was read
+    -- it was refused, after what it would rewrite was read
     read_not : (outputs : Fault) (rotation : Rotation) → ComesTo past (generation_of old.tape) rotation
         → IsTapeRead old.tape new.tape
         → (IsReadTape past (read_now past new.tape) → RefusesAs P rotation past outputs (read_now past new.tape))

@@ -48,7 +48,7 @@ pub long : (event : ℕ → Event) (n : ℕ) → length (each_rank event n) ≡ 
 long event zero = refl
 long event (suc n) = length_push (each_rank event n) (event n) ∙ ap (λ (m : ℕ). suc m) (long event n)
 
--- those up to a rank are the first of them
+-- those below a rank are a prefix of all
 prefix_of : (event : ℕ → Event) (n k : ℕ) (behind : List Event) → k ≤ n
     → (rest : List Event) × (each_rank event n ++ behind ≡ each_rank event k ++ rest)
 prefix_of event zero k behind within =
@@ -81,7 +81,7 @@ get_rank event n k behind within =
 
 -- ---- one peer in the place of another
 
--- it is safe still where what is left of the new one's tape is, and all that was acknowledged is
+-- the tapes are still safe if what is left of the new peer's tape is, and if all that was acknowledged still is
 pub safe_put : (past : Past) (rank : ℕ) (was now : PeerPast) → IsSafe past → slice_get past.peers rank ≡ Some was
     → EachLedger (KeepsNotes now) now.tape.log → ((mark : ℕ) → HasAcknowledged mark was → HasAcknowledged mark now)
     → IsSafe (with_peer past rank now)
@@ -97,7 +97,7 @@ safe_put past rank was now safe here each has = record {
       }) past.intake.log safe.intake;
 }
 
--- nothing pends where all was recovered
+-- nothing pends if all was recovered
 none_pends : (mark : ℕ) (h : History) (count : ℕ) → AllByRecursion (IsAbove mark) (pending_notes (recovered h count))
 none_pends mark h count = subst (AllByRecursion (IsAbove mark)) (sym (drop_taken count h.notes)) tt
 

@@ -1,5 +1,5 @@
--- Whatever a stop leaves behind any steps is the tape of the first of a peer's notes, every acknowledged one among
--- them, and what was acknowledged is owed there or has ended.
+-- Whatever a stop leaves after any steps is the tape of a prefix of a peer's notes, with every acknowledged one in it,
+-- and what was acknowledged is owed there or has ended.
 use Rattle.std.proofs.Common.{◌≡◌, ◌⊎◌, ℕ, zero, suc, ◌<◌, Bool, true, false, cond, not, Some, List}
 use Rattle.std.proofs.Common.{[], ◌∷◌, ◌++◌, take, refl, sym, ap, ◌∙◌, subst, inl, inr, arith}
 use Rattle.std.specs.Prelude.{◌==◌, Contains}
@@ -29,7 +29,7 @@ use Rattle.world_core.proofs.AcknowledgedOverRuns.{all_stay}
 -- ---- the elements of a list
 
 module _ {A : Type 0} where
-  -- one more among them
+  -- one more element among them
   contains_put : (xs ys : List A) (x y : A) → Contains (xs ++ ys) y → Contains (xs ++ x ∷ ys) y
   contains_put [] ys x y has = contains_more ys x y has
   contains_put (z ∷ xs) ys x y (zero, below, is) = (zero, omega arith, is)
@@ -47,7 +47,7 @@ module _ {A : Type 0} where
   contains_taken (suc k) (y ∷ xs) x (suc i, below, is) =
       contains_more xs y x (contains_taken k xs x (i, omega (arith, below), is))
 
-  -- what is among the first stands there, and what stands below is among them
+  -- an element of a prefix is one of the list, below the prefix's end, and the other way round
   get_taken : (k : ℕ) (xs : List A) (i : ℕ) (x : A) → slice_get (take k xs) i ≡ Some x
       → (i < k) × (slice_get xs i ≡ Some x)
   get_taken zero xs i x here = absurd cc
@@ -90,7 +90,7 @@ stays number (e ∷ debts) d apart (zero, below, is) =
 stays number (e ∷ debts) d apart (suc k, below, is) =
     goes_step (e.0 == number) e d (without number debts) (stays number debts d apart (k, omega (arith, below), is))
 
--- with one debt more, whose key may be noted next, each is owed that was, and this one is
+-- one more debt, whose key may be noted next: what was owed still is, and so is this debt
 put_here : (state : State) (key : ℕ) (token id : List ℕ) → IsNext (marks_of state) key → IsWhole state
     → Put state.debts key token id
 put_here state key token id next whole =
@@ -109,7 +109,7 @@ put_owes debts key token id there =
     subst (λ (ds : List Owing). Contains ds (key, (token, id))) (sym there.is)
     (contains_here there.prefix there.behind (key, (token, id)))
 
--- notes behind the first
+-- the notes after the first
 legal_behind : (state : State) (note : Note) (notes : List Note) → AreLegal state (note ∷ notes)
     → AreLegal (step state note) notes
 legal_behind state note notes are = record {
@@ -118,7 +118,7 @@ legal_behind state note notes are = record {
   legal = are.legal.1;
 }
 
--- among these notes is one that ends the debt of this number
+-- one of these notes ends the debt of this number
 abbrev Ends : List Note → ℕ → Type 0
 Ends notes number = (note : Note) × Contains notes note × IsEnd note number
 
@@ -130,7 +130,7 @@ behind : (X : Type 0) (note : Note) (notes : List Note) (number : ℕ) → X ⊎
 behind X note notes number (inl owed) = inl owed
 behind X note notes number (inr ends) = inr (ends_more note notes number ends)
 
--- a debt that is owed stays so, or one of the notes ends it
+-- a debt that is owed still is after these notes, or one of them ends it
 owed_on : (state : State) (notes : List Note) (number : ℕ) (token id : List ℕ) → AreLegal state notes
     → Contains state.debts (number, (token, id))
     → Contains (after state notes).debts (number, (token, id)) ⊎ Ends notes number
@@ -158,7 +158,7 @@ owed_on state (Closed source ∷ notes) number token id are has =
     behind _ (Closed source) notes number
     (owed_on (step state (Closed source)) notes number token id (legal_behind state (Closed source) notes are) has)
 
--- so does one that a note among them owes
+-- the same of a debt that one of the notes owes
 owed_by : (state : State) (notes : List Note) (index number : ℕ) (token id : List ℕ) → AreLegal state notes
     → slice_get notes index ≡ Some (Owe number token id)
     → Contains (after state notes).debts (number, (token, id)) ⊎ Ends notes number
@@ -179,7 +179,7 @@ owed_by state (note ∷ notes) (suc index) number token id are here =
 
 -- ---- a peer
 
--- what is owed after the first of the notes, or ended by one of those, is owed there or has ended
+-- what is owed after a prefix of the notes, or ended in it, is owed there or has ended
 at_prefix : (peer : PeerPast) (state : State) (prefix : IsPrefix peer.tape.history state) (number : ℕ) (token id :
     List ℕ)
     → Contains (after peer.tape.history.base (take prefix.count peer.tape.history.notes)).debts (number, (token, id))

@@ -1,11 +1,11 @@
--- Lists that are related rank by rank.
+-- Lists related element by element.
 use Rattle.std.proofs.Common.{◌≡◌, ℕ, zero, suc, Some, List, [], ◌∷◌, ◌++◌, length, map, refl, sym}
 use Rattle.std.proofs.Common.{◌∙◌, ap, subst}
 use Rattle.std.proofs.Math.ListN.{set}
 use Rattle.std.specs.List.{AllByRecursion, AllZip, slice_get}
 
 module _ {A B : Type 0} (R : A → B → Type 0) where
-  -- behind related lists come related ones
+  -- related lists, each appended to one of two related lists
   pub zip_append : (xs : List A) (ys : List B) (us : List A) (vs : List B) → AllZip R xs ys → AllZip R us vs
       → AllZip R (xs ++ us) (ys ++ vs)
   zip_append [] [] us vs all more = more
@@ -17,14 +17,14 @@ module _ {A B : Type 0} (R : A → B → Type 0) where
       → AllZip R (xs ++ x ∷ []) (ys ++ y ∷ [])
   zip_push xs ys x y all one = zip_append xs ys (x ∷ []) (y ∷ []) all (one, tt)
 
-  -- they are of one length
+  -- related lists have the same length
   pub zip_length : (xs : List A) (ys : List B) → AllZip R xs ys → length xs ≡ length ys
   zip_length [] [] all = refl
   zip_length [] (y ∷ ys) all = absurd all
   zip_length (x ∷ xs) [] all = absurd all
   zip_length (x ∷ xs) (y ∷ ys) all = ap (λ (n : ℕ). suc n) (zip_length xs ys all.1)
 
-  -- what f makes of the one is what g makes of the other
+  -- if related elements have the same image under f and g, so have the lists
   pub zip_equal : {E : Type 0} (f : A → E) (g : B → E) → ((x : A) (y : B) → R x y → g y ≡ f x)
       → (xs : List A) (ys : List B) → AllZip R xs ys → map g ys ≡ map f xs
   zip_equal f g each [] [] all = refl
@@ -33,14 +33,14 @@ module _ {A B : Type 0} (R : A → B → Type 0) where
   zip_equal f g each (x ∷ xs) (y ∷ ys) all =
       ap (λ z. z ∷ map g ys) (each x y all.0) ∙ ap (λ l. f x ∷ l) (zip_equal f g each xs ys all.1)
 
-  -- what is so of the one
+  -- a property of each first element
   pub zip_first : (S : A → Type 0) → ((x : A) (y : B) → R x y → S x)
       → (xs : List A) (ys : List B) → AllZip R xs ys → AllByRecursion S xs
   zip_first S each [] ys all = tt
   zip_first S each (x ∷ xs) [] all = absurd all
   zip_first S each (x ∷ xs) (y ∷ ys) all = (each x y all.0, zip_first S each xs ys all.1)
 
-  -- another relation, of what is made of both
+  -- another relation, of the images of both
   pub zip_both : {E F : Type 0} (Q : E → F → Type 0) (f : A → E) (g : B → F)
       → ((x : A) (y : B) → R x y → Q (f x) (g y))
       → (xs : List A) (ys : List B) → AllZip R xs ys → AllZip Q (map f xs) (map g ys)
@@ -49,7 +49,7 @@ module _ {A B : Type 0} (R : A → B → Type 0) where
   zip_both Q f g each (x ∷ xs) [] all = absurd all
   zip_both Q f g each (x ∷ xs) (y ∷ ys) all = (each x y all.0, zip_both Q f g each xs ys all.1)
 
-  -- or of the two
+  -- a weaker relation
   pub zip_weaker : (Q : A → B → Type 0) → ((x : A) (y : B) → R x y → Q x y)
       → (xs : List A) (ys : List B) → AllZip R xs ys → AllZip Q xs ys
   zip_weaker Q each [] [] all = tt
@@ -57,7 +57,7 @@ module _ {A B : Type 0} (R : A → B → Type 0) where
   zip_weaker Q each (x ∷ xs) [] all = absurd all
   zip_weaker Q each (x ∷ xs) (y ∷ ys) all = (each x y all.0, zip_weaker Q each xs ys all.1)
 
--- one relation through another
+-- the relation composed of two
 pub zip_then : {A B C : Type 0} (P : A → B → Type 0) (R : B → C → Type 0) (Q : A → C → Type 0)
     → ((x : A) (y : B) (z : C) → P x y → R y z → Q x z)
     → (xs : List A) (ys : List B) (zs : List C) → AllZip P xs ys → AllZip R ys zs → AllZip Q xs zs
@@ -69,7 +69,7 @@ zip_then P R Q each (x ∷ xs) (y ∷ ys) [] all more = absurd more
 zip_then P R Q each (x ∷ xs) (y ∷ ys) (z ∷ zs) all more =
     (each x y z all.0 more.0, zip_then P R Q each xs ys zs all.1 more.1)
 
--- what is so of each two is so of what f makes of the first
+-- a relation of each image under f, from one of the element
 pub zip_map : {A B E : Type 0} (P : A → B → Type 0) (Q : E → B → Type 0) (f : A → E)
     → ((x : A) (y : B) → P x y → Q (f x) y)
     → (xs : List A) (ys : List B) → AllZip P xs ys → AllZip Q (map f xs) ys
@@ -78,7 +78,7 @@ zip_map P Q f each [] (y ∷ ys) all = absurd all
 zip_map P Q f each (x ∷ xs) [] all = absurd all
 zip_map P Q f each (x ∷ xs) (y ∷ ys) all = (each x y all.0, zip_map P Q f each xs ys all.1)
 
--- so of what f makes of the first, one relation through another
+-- both: the composed relation, of each image under f
 pub zip_through : {A B C E : Type 0} (P : A → B → Type 0) (R : B → C → Type 0) (Q : E → C → Type 0)
     (f : A → E)
     → ((x : A) (y : B) (z : C) → P x y → R y z → Q (f x) z)
@@ -86,13 +86,13 @@ pub zip_through : {A B C E : Type 0} (P : A → B → Type 0) (R : B → C → T
 zip_through P R Q f each xs ys zs all more =
     zip_map (λ x z. Q (f x) z) Q f (λ x z is. is) xs zs (zip_then P R (λ x z. Q (f x) z) each xs ys zs all more)
 
--- each is related to what f makes of it
+-- each element is related to its image
 pub zip_made : {A B : Type 0} (R : A → B → Type 0) (f : A → B) → ((x : A) → R x (f x)) → (xs : List A)
     → AllZip R xs (map f xs)
 zip_made R f each [] = tt
 zip_made R f each (x ∷ xs) = (each x, zip_made R f each xs)
 
--- each is related to itself, and one to another that is put in its place
+-- each element is related to itself, and one to another that is put in its place
 module _ {A : Type 0} (R : A → A → Type 0) (same : (x : A) → R x x) where
   pub zip_same : (xs : List A) → AllZip R xs xs
   zip_same [] = tt

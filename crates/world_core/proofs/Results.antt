@@ -1,4 +1,4 @@
--- What a call answered, told on by its caller.
+-- What a call returned, passed on by its caller.
 use Rattle.std.proofs.Common.{◌≡◌, ◌↔◌, Result, Ok, Err, IfErr, OnOk, ap, sym, subst}
 use Rattle.std.specs.Prelude.{IfOk, IsErrAnd}
 
@@ -7,7 +7,7 @@ module _ {T E : Type 0} where
   if_err (Ok v) P Q is give = absurd is
   if_err (Err e) P Q is give = give e is
 
-  -- the same error
+  -- the call returned exactly this error
   pub if_err_is : (r : Result T E) (x : E) (Q : E → Type 0) → IsErrAnd r (λ e. e ≡ x) → Q x → IfErr r Q
   if_err_is (Ok v) x Q is one = absurd is
   if_err_is (Err e) x Q is one = subst Q (sym is) one
@@ -24,7 +24,7 @@ module _ {T E : Type 0} where
   if_err_map (Ok v) P Q is give = tt
   if_err_map (Err e) P Q is give = give e is
 
--- a refusal that is reported by one error, at a call that answered an error, and at one that answered none
+-- an equivalence about the call's error holds of the caller's; and if the call returned Ok, the condition is false
 pub at_err : {T E : Type 0} {x e : E} {Q : Type 0} → ◌≡◌ {A = Result T E} (Err x) (Err e) ↔ Q → (x ≡ e) ↔ Q
 at_err outputs = ((λ same. outputs.0 (ap Err same)), λ q. let is = outputs.1 q in cc)
 

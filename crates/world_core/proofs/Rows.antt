@@ -1,4 +1,4 @@
--- Worked scripts, computed: what each step tells, what each peer has noted, and how much of it is acknowledged.
+-- Worked scripts, computed: what each step reports, what each peer has noted, and how much of it is acknowledged.
 use Rattle.std.proofs.Common.{◌≡◌, ℕ, ◌+◌, true, false, None, Some, List, [], ◌∷◌, ◌++◌, length, map, refl, inl, inr}
 use Rattle.std.proofs.Common.{arith}
 use Rattle.std.specs.List.{AllZip}
@@ -33,7 +33,7 @@ use Rattle.world_core.specs.Output.{Mark, Owed, Said, lines_in, mark_said}
 use Rattle.world_core.specs.declared.fault.Fault.TheVariants.{Tape}
 use Rattle.world_core.specs.declared.step.Step.TheVariants.{Part, Rotate}
 
--- ---- what the events of a step that goes well leave
+-- ---- what the events of a step leave, if it is taken
 
 -- what a good line leaves
 abbrev lined : List ℕ → List ℕ → List (List ℕ) → Past → Past
@@ -44,7 +44,7 @@ lined token id named past = record past {
   last = past.last + 1;
 }
 
--- what it tells
+-- what it reports
 abbrev line_said : List (List ℕ) → Past → Said
 line_said named past = Owed (past.last + 1) (owed_there (past.last + 1) named past.peers)
 
@@ -60,7 +60,7 @@ all_parted past = record past { peers = map (λ (peer : PeerPast). parted peer (
 abbrev sealed : ℕ → Past → Past
 sealed number past = record past { intake = flushed_tape (seen number past.intake) }
 
--- a tape of which so many notes were found
+-- a tape on which this many notes were found
 abbrev opened_tape : ℕ → TapePast → TapePast
 opened_tape count tape = record tape { history = recovered tape.history count }
 
@@ -83,7 +83,7 @@ standing past = map (λ (peer : PeerPast).
 
 -- ---- output
 
--- each line up to its LF, without its CR; octets behind the last LF are none
+-- each line up to its LF, without its CR; the octets after the last LF are no line
 two_lines : lines_in (codes "CHECK <x@y>" ++ 13 ∷ 10 ∷ codes ".." ++ 10 ∷ codes "Q")
     ≡ codes "CHECK <x@y>" ∷ codes ".." ∷ []
 two_lines = refl
@@ -141,8 +141,8 @@ module _ (conf : PeerConf) where
       ≡ Mark (codes "p") 1 (1 ∷ []) ∷ Mark (codes "q") 1 (1 ∷ []) ∷ []
   restart_tells = refl
 
-  -- a stop at the flush of the second peer: the first has its note, the second has not, and the line given again is
-  -- new there alone
+  -- a stop during the flush of the second peer: the first has its note, the second has not, and the line given again is
+  -- new only there
   abbrev half : Past
   half = restarted (1 ∷ 0 ∷ []) 0 (left AtRest both)
 
@@ -158,8 +158,8 @@ module _ (conf : PeerConf) where
   again_stands : standing again ≡ (1, (1 ∷ [], 1)) ∷ (1, (1 ∷ [], 1)) ∷ []
   again_stands = refl
 
-  -- so says the law of lines that are read again: whom the line is new to, at whom that is reported, what it makes of
-  -- all
+  -- the law of lines that are read again says the same: to whom the line is new, at whom that is reported, and what the
+  -- line makes of all tapes
   again_new : new_to 1 named half.peers ≡ codes "q" ∷ []
   again_new = refl
 
@@ -180,7 +180,7 @@ module _ (conf : PeerConf) where
   first_owes : OwesOrEnded first 1 (codes "a/1") (codes "<x@y>") (ledger_at first.tape)
   first_owes = inl (0, omega arith, refl)
 
-  -- a flush of that peer is under way where its tape is broken, and comes to nothing
+  -- a flush of that peer is under way although its tape is broken; it will be refused
   abbrev broken_life : Life
   broken_life = record {
     past = record two { peers = record (peer (codes "p")) { tape = record tape { broken = true } } ∷ [] };
@@ -212,15 +212,15 @@ module _ (conf : PeerConf) where
     );
   }
 
-  -- whose peer keeps its notes, and owes what it owed
+  -- the peer keeps its notes, and owes what it owed
   part_within : IsSafe broken_life.past → AllZip StaysPrefix broken_life.past.peers broken_life.past.peers
   part_within safe = (at_start safe.peers.0, tt)
 
-  -- a rotation may answer any generation
+  -- a rotation may end in any generation
   may_rotate : MayMake (Rotate (codes "p")) broken_life broken_life.past (Rotates 0 7 ∷ [])
   may_rotate = (refl, refl, (0, 7, refl, refl))
 
-  -- a line between the part and the seal: the kept number is sealed, and the later line is none that is acknowledged
+  -- a line between the part and the seal: the kept number is sealed, and the later line is not acknowledged
   abbrev one : Past
   one = record { peers = peer (codes "p") ∷ []; intake = tape; last = 0; begun = None }
 
@@ -234,22 +234,22 @@ module _ (conf : PeerConf) where
   between_stands : standing between ≡ (2, (1 ∷ 2 ∷ [], 1)) ∷ []
   between_stands = refl
 
-  -- stopped and opened again with one note: the line behind the mark is the second, and new
+  -- stopped and opened again with one note: the line after the mark is the second, and new
   between_again : line_said (codes "p" ∷ []) (restarted (1 ∷ []) 1 (left AtRest between))
       ≡ Owed 2 ((codes "p", New) ∷ [])
   between_again = refl
 
-  -- a seal once more: the number is not above the mark, and no note is taken
+  -- a second seal: the number is not above the mark, and nothing is noted
   sealed_twice : length (sealed 1 between).intake.history.notes ≡ 1
   sealed_twice = refl
 
-  -- a second begin forgets the parts, and keeps the later number
+  -- a second begin forgets which peers were flushed, and keeps the later number
   begun_again : map (λ (p : PeerPast). p.parted) (begun_at between).peers ≡ false ∷ []
   begun_again = refl
 
   -- ---- a backlog file
 
-  -- line 1 and line 3 of it, of which line 2 is not good: two notes, the close of the source, and the flush
+  -- lines 1 and 3 of it, while line 2 is malformed: two notes, the close of the source, and the flush
   abbrev articles : List Good
   articles = (1, (codes "a/1", codes "<x@y>")) ∷ (3, (codes "a/2", codes "<z@y>")) ∷ []
 
@@ -260,7 +260,7 @@ module _ (conf : PeerConf) where
   import_counts : count_new 0 articles ≡ 2
   import_counts = refl
 
-  -- where as many notes pend as may, or one fewer, room is made before the note that finds none
+  -- if as many notes pend as may, or one fewer, room is made before the note that finds none
   import_of_full : import_events 0 most_pending 0 articles ≡ Spills 0 ∷ Imports 0 1 (codes "a/1") (codes "<x@y>")
       ∷ Imports 0 3 (codes "a/2") (codes "<z@y>") ∷ Closes 0 ∷ Spills 0 ∷ []
   import_of_full = refl
@@ -269,7 +269,7 @@ module _ (conf : PeerConf) where
       ∷ Spills 0 ∷ Imports 0 3 (codes "a/2") (codes "<z@y>") ∷ Closes 0 ∷ Spills 0 ∷ []
   import_of_nearly_full = refl
 
-  -- a line at or below the mark makes no note, whatever the mark
+  -- lines at or below the mark make no note, whatever the mark
   import_again : import_events 0 most_pending 3 articles ≡ Imports 0 1 (codes "a/1") (codes "<x@y>")
       ∷ Imports 0 3 (codes "a/2") (codes "<z@y>") ∷ Spills 0 ∷ Closes 0 ∷ Spills 0 ∷ []
   import_again = refl
@@ -287,7 +287,7 @@ module _ (conf : PeerConf) where
   imported = closed (import_one 3 (codes "a/2") (codes "<z@y>")
       (import_one 1 (codes "a/1") (codes "<x@y>") (peer (codes "p"))))
 
-  -- what is owed, and which source is open then
+  -- what is owed, and which source is then open
   import_leaves : keys (ledger_at imported.tape) ≡ (2 ^ 64 + 1) ∷ (2 ^ 64 + 3) ∷ []
   import_leaves = refl
 
@@ -305,7 +305,7 @@ module _ (conf : PeerConf) where
   abbrev stop : Armed
   stop = record { rank = Some 0; call = 2; choice = choice }
 
-  -- arming leaves the kept number, and a stop takes it: no number is kept, no stop is armed, and the moment and the
+  -- arming keeps the kept number, and a stop drops it: no number is kept, no stop is armed, and the moment and the
   -- numbers of connections go on
   arming_keeps : (armed_with stop life).past.begun ≡ Some 1
   arming_keeps = refl
@@ -323,7 +323,7 @@ module _ (conf : PeerConf) where
   halted_keeps : (left AtRest between).begun ≡ None
   halted_keeps = refl
 
-  -- a write that was not synced is left out by a choice of none, on a new disk whose only image that is
+  -- a write that was not synced is left out by a choice that keeps nothing; the new disk can only be that
   torn : map (λ (p : PeerPast). p.tape.log) (left (ByChoice choice) (record one {
     peers = record (peer (codes "p")) { tape = record tape { log = (Wrote 0 (7 ∷ []) ∷ Synced ∷ [], []) } } ∷ [];
   })).peers ≡ (Made [] ∷ [], Made [] ∷ []) ∷ []

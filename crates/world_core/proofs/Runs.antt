@@ -21,7 +21,7 @@ stage_safe : (life : Life) (stage : Stage) → StageStands life stage → IsSafe
 stage_safe life (Running stations connections) stands = safe_of stations life.past stands.1
 stage_safe life (Stopped peers intake) stands = safe_stopped life.past peers.items intake stands.1 stands.2
 
--- a world is safe, stopped or not
+-- a world that something stands for is safe, stopped or running
 pub world_safe : (world : World) (life : Life) → WorldStands world life → IsSafe life.past
 world_safe world life stands = stage_safe life world.stage stands.stage
 

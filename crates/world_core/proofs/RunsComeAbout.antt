@@ -21,7 +21,7 @@ module _ (begun : Life) where
       subst (λ (s : List Step). Comes begun s lines' later) (sym same)
       (subst (λ (l : List (List Said)). Comes begun steps l later) (sym said) comes)
 
-  -- steps are taken behind what came before
+  -- steps are taken after those that came before
   comes_on : (before : List Step) (outputs : List (List Said)) (mid : Life) → Comes begun before outputs mid
       → (steps : List Step) (lines : List (List Said)) (later : Life) → Runs mid steps lines later
       → Comes begun (before ++ steps) (outputs ++ lines) later

@@ -1,4 +1,4 @@
--- What holds of all tapes behind a shedding, and what a rotation that is refused keeps.
+-- What holds of all tapes after a shedding, and what a refused rotation keeps.
 use Rattle.std.proofs.Common.{◌≡◌, ℕ, ◌≤◌, Some, List, [], ◌∷◌, length, refl, sym, ap, subst, inl, inr}
 use Rattle.std.specs.List.{AllByRecursion, slice_get}
 use Rattle.std.proofs.lemmas.List.{drop-append-le}

@@ -26,7 +26,7 @@ use Rattle.world_core.proofs.MarksAndNotes.{above_flushed, above_noted, all_set,
 use Rattle.peer_queue.specs.Words.{tape_of}
 use Rattle.world_core.proofs.RelatedLists.{zip_first}
 
--- the names stay where one peer's settings do
+-- the names stay if the peer's settings do
 pub names_set : (past : Past) (rank : ℕ) (was now : PeerPast) → NamesRise (names_of past.peers)
     → slice_get past.peers rank ≡ Some was
     → now.conf ≡ was.conf → NamesRise (names_of (with_peer past rank now).peers)
@@ -53,7 +53,7 @@ pub owed_conf : (number : ℕ) (token id : List ℕ) (peer : PeerPast) (owed : O
 owed_conf number token id peer New = refl
 owed_conf number token id peer Already = refl
 
--- A peer becomes another, whose notes that pend were made by no line up to a mark where those of the first were not.
+-- A peer becomes another. If none of its pending notes was made by a line up to a mark, none of the other's was.
 pub sound_kept : (past : Past) (rank : ℕ) (peer now : PeerPast) → IsSound past → slice_get past.peers rank ≡ Some peer
     → now.conf ≡ peer.conf → now.parted ≡ peer.parted
     → ((mark : ℕ) → mark ≤ past.last → HasAcknowledged mark peer → HasAcknowledged mark now)
@@ -72,7 +72,7 @@ sound_kept past rank peer now sound here conf parts has = record {
       (all_at (HasParted number) past.peers rank peer (sound.parted number is) here (sym parts ∙ e)));
 }
 
--- a line under a key above all numbers of lines
+-- a line under a key above the numbers of all lines
 pub sound_owed : (past : Past) (rank : ℕ) (peer : PeerPast) (key : ℕ) (token id : List ℕ) (owed : Owed) → IsSound past
     → slice_get past.peers rank ≡ Some peer → peer.tape.history.kept ≤ length peer.tape.history.notes
     → past.last < key → IsSound (with_peer past rank (owing_as owed key token id peer))
@@ -88,9 +88,9 @@ sound_closed past rank peer sound here within =
     sound_kept past rank peer _ sound here refl refl
     (λ mark below has. above_noted mark peer.tape.history (closing peer) within has tt)
 
--- ---- a peer whose pending notes are no more than they were, or none
+-- ---- a peer with no more pending notes than before, or with none
 
--- none pends behind a flush
+-- none pends after a flush
 flushed_has : (mark : ℕ) (peer : PeerPast) (tape : TapePast) → tape.history ≡ flushed peer.tape.history
     → AllByRecursion (IsAbove mark) (pending_notes tape.history)
 flushed_has mark peer tape is = subst (λ (h : History). AllByRecursion (IsAbove mark) (pending_notes h)) (sym is)
@@ -110,7 +110,7 @@ sound_flushed past rank peer tape sound here is = record {
       (λ _. flushed_has number peer tape is);
 }
 
--- a flush while a backlog file is taken in
+-- a flush during an import
 pub sound_spilled : (past : Past) (rank : ℕ) (peer : PeerPast) (tape : TapePast) → IsSound past
     → slice_get past.peers rank ≡ Some peer
     → tape.history ≡ flushed peer.tape.history → IsSound (with_peer past rank (with_tape peer tape))
@@ -146,7 +146,7 @@ seen_mark : (number : ℕ) (tape : TapePast) → mark_at (noted_at tape (Seen nu
 seen_mark number tape = ap (λ (state : State). state.mark)
     (after-append tape.history.base tape.history.notes (Seen number ∷ []))
 
--- The mark of the intake rises to a number that each peer was flushed behind.
+-- The mark of the intake rises to a kept number, since which each peer was flushed.
 pub sound_noted : (past : Past) (number : ℕ) → IsSound past → IsSealable past number
     → IsSound (with_intake past (noted_at past.intake (Seen number)))
 sound_noted past number sound sealable =

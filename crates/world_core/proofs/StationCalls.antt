@@ -34,7 +34,7 @@ same_history P old fault new (inr (inr (inl memory))) = ap (λ (t : TapePast). t
 same_history P old fault new (inr (inr (inr disk))) = ap (λ (t : TapePast). t.history) disk.2.all
 
 module _ {D : Type 0} {g : Ghosts D} where
-  -- the new stations have this peer in the place of the old one, and all else is as it was
+  -- the new stations have this peer in place of the old one, and all else is as it was
   pub record WithPeer (old new : Stations D g) (rank : ℕ) (peer : Peer D g) : Type 0 where
     pub peers : new.peers.items ≡ set old.peers.items rank peer
     pub intake : new.intake ≡ old.intake
@@ -61,7 +61,7 @@ module _ {D : Type 0} {g : Ghosts D} where
     sound = sound;
   }
 
-  -- A call of the peer at a rank is one event, or is refused as one.
+  -- A call of the peer at a rank is one event, taken or refused.
   module _ (old new : Stations D g) (past : Past) (rank : ℕ) (was peer : Peer D g) (stands : Stands old past)
       (within : rank < length old.peers.items) (at : was ≡ get_or old.peers.items rank was)
       (same : WithPeer old new rank peer) where
@@ -166,7 +166,7 @@ module _ {D : Type 0} {g : Ghosts D} where
     failed_close r tells = if_err_map r _ _ (tells here.0 here.2) (λ fault is.
         failed (Closes rank) _ (λ f later refused. refused) fault here.0.tape (is.refused, refl) refl is.stands)
 
-    -- a line is owed under a key above all numbers of lines
+    -- a line is owed under a key above the numbers of all lines
     module _ (token id : List ℕ) where
       owes : (answer : PeerPast → Owed) (key : PeerPast → ℕ) (owed : Owed)
           → OwedTo answer key token id here.0 owed peer → past.last < key here.0

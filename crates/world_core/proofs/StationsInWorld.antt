@@ -1,4 +1,4 @@
--- What stations and connections make, the world that has them makes.
+-- What stations and connections do is what the world that has them does.
 use Rattle.std.proofs.Common.{◌≡◌, ℕ, true, false, List, [], ◌++◌, length, map, Vec, sym, ap, ◌∙◌, subst, inl, inr}
 use Rattle.std.specs.Prelude.{option_map}
 use Rattle.std.specs.declared.alloc.Global.{Global}
@@ -73,7 +73,7 @@ refused_world R life new fault stations conns running stage armed same now refus
   };
 }
 
--- the same of a fault that is told on
+-- the same of a fault that is passed on
 pub refused_as : (R : Life → Fault → Life → Type 0) (life : Life) (new : World) (outputs fault : Fault) (stations : _)
     (conns : Vec Connection Global)
     → life.running ≡ true → new.stage ≡ Running stations conns → option_map armed_as new.armed ≡ life.armed

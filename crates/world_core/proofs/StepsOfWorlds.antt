@@ -1,4 +1,4 @@
--- What the steps on tapes, and a stop that is met in one, make of a world.
+-- What the steps on tapes make of a world, and what a stop that is met in one makes of it.
 use Rattle.std.proofs.Common.{◌≡◌, ℕ, zero, suc, true, Option, None, Some, List, [], ◌∷◌, map, refl, sym, ap}
 use Rattle.std.proofs.Common.{◌∙◌, subst, inl, inr}
 use Rattle.std.specs.Prelude.{Contains, IfErr, OnOk, Result, Vec, option_map}
@@ -46,7 +46,7 @@ use Rattle.world_core.proofs.RelatedLists.{zip_weaker}
 
 -- ---- what connections hold stays
 
--- the peer at a rank is another with the same settings, of which the same is held
+-- the peer at a rank is replaced by one with the same settings, at which connections hold the same
 peer_at : (was now : List PeerPast) (rank : ℕ) (peer : PeerPast) → AllZip HoldsSame was now
     → slice_get was rank ≡ Some peer
     → (later : PeerPast) × (slice_get now rank ≡ Some later) × HoldsSame peer later
@@ -149,7 +149,6 @@ stands_on old new life past stations now conns stands was is on all armed connec
       sound = record { past = on.sound; conns = tied_kept life past all stands.sound.conns };
     }
 
--- it runs
 pub runs_there : (world : World) (life : Life) (stations : _) (conns : _) → WorldStands world life
     → world.stage ≡ Running stations conns
     → (life.running ≡ true) × Stands stations life.past
@@ -169,7 +168,7 @@ not_taken step life later fault world refuses stands = record { later = later; r
 
 -- ---- a stop that is met
 
--- what goes on is armed as before, and has the same number of connections and moment
+-- the world is armed as before, and its last connection and its moment are the same
 goes_armed : (life : Life) (under_way : Past) (now : Life) → GoesOn life under_way now → now.armed ≡ life.armed
 goes_armed life under_way now (inl on) = ap (λ (l : Life). l.armed) on.1
 goes_armed life under_way now (inr on) = ap (λ (l : Life). l.armed) on.1
@@ -297,7 +296,6 @@ module _ (old new : World) (life : Life) (stations now : Stations StopDisk _) (c
         disk = λ fails. both.1 fails runs_now;
       }
 
-  -- a number was kept
   pub began : (outputs : List Output) → outputs ≡ [] → (Stands stations life.past → Stands now (begun_at life.past))
       → Took Begin life outputs new
   began outputs none begins =
@@ -324,7 +322,7 @@ module _ (old new : World) (life : Life) (stations now : Stations StopDisk _) (c
 
 -- ---- the event in which a disk failed
 
--- the only event
+-- the event that was refused is the only one
 one_event : (past later : Past) (event : Event) (fault : Fault) (fails : Fails past (event ∷ []) fault later)
     → fails.event ≡ event
 one_event past later event fault fails = only fails.count fails.event fails.here
@@ -365,7 +363,7 @@ rotate_fails life name halt later at runs (inr (rank, here, inr fails)) disk = r
   };
 }
 
--- of an import only a flush of its peer is refused for a disk
+-- of an import's events, a failing disk can refuse only a flush of its peer
 owe_not : (tape : TapePast) (note : Note) → RefusesOwe tape note (Tape Disk) → ⊥
 owe_not tape note (inl broken) = let no = broken.0 in cc
 owe_not tape note (inr (inl full)) = let no = full.0 in cc
@@ -439,7 +437,6 @@ pub refused_not : (step : Step) (R : Life → Fault → Life → Type 0) (life :
 refused_not step R life world refuses fault refused =
     not_taken step life refused.later fault world (refuses fault refused.later refused.refuses) refused.stands
 
--- the step is this one
 pub as_step : (step other : Step) (r : Result (Unit {0}) Fault) (life : Life) (outputs : List Output) (world : World)
     → step ≡ other
     → OnOk r (Took other life outputs world) → OnOk r (Took step life outputs world)

@@ -1,4 +1,4 @@
--- A tape that had stopped is opened.
+-- How a tape that had stopped is opened.
 use Rattle.std.proofs.Common.{◌≡◌, ◌⊎◌, inl, inr, ℕ, false, refl, sym, ap, ◌∙◌, subst}
 use Rattle.disk_model.specs.declared.Disk.{Ghosts}
 use Rattle.ledger_core.specs.State.{State, keys}

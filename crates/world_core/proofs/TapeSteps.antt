@@ -34,7 +34,7 @@ use Rattle.world_core.proofs.EventLists.{failed_next, failed_one, failed_then}
 use Rattle.world_core.proofs.IntakeSees.{mark_is}
 use Rattle.world_core.proofs.RelatedLists.{zip_length}
 
--- the one that was put into an empty list
+-- an element that was put into an empty list
 pub pushed : {A : Type 0} (old new : List A) (x : A) → new ≡ old ++ x ∷ [] → old ≡ [] → new ≡ x ∷ []
 pushed old new x more none = more ∙ ap (λ l. l ++ x ∷ []) none
 
@@ -67,13 +67,13 @@ flush_is past number is =
     (length-map past.peers (λ (peer : PeerPast). record peer { parted = false }))
     ∙ ap (λ (n : ℕ). each_rank Parts (length past.peers) ++ seal_events n) is
 
--- no note is refused for a disk
+-- a note is never refused for a failing disk
 pub note_not : (tape : TapePast) → RefusesNote tape (Tape Disk) → ⊥
 note_not tape (inl broken) = absurd (let no = broken.0 in cc)
 note_not tape (inr (inl full)) = absurd (let no = full.0 in cc)
 note_not tape (inr (inr memory)) = absurd (let no = memory.0 in cc)
 
--- of a seal only the flush of the intake's tape is
+-- of a seal, only the flush of the intake's tape is
 pub seal_at : (past later : Past) (number : ℕ) (fault : Fault) → fault ≡ Tape Disk
     → (fails : Fails past (seal_events number) fault later)
     → calls_disk fails.event ≡ Some None
@@ -92,7 +92,7 @@ seal_at past later number fault is fails = at fails.count fails.event fails.mid 
     at (suc (suc count)) e mid here refused = absurd cc
 
 module _ {D : Type 0} {g : Ghosts D} where
-  -- a disk failed, if any did, at the intake's tape
+  -- if a disk failed, it was at the intake's tape
   record SealFails (past : Past) (events : List Event) (fault : Fault) (stations : Stations D g) : Type 0 where
     failed : Failed past events fault stations
     at : fault ≡ Tape Disk → calls_disk failed.fails.event ≡ Some None
@@ -129,7 +129,7 @@ module _ {D : Type 0} {g : Ghosts D} where
         at = refl;
       })
 
-  -- each was flushed, so that the kept number may be sealed
+  -- each peer was flushed, so that the kept number may be sealed
   sealable_each : (past : Past) (number : ℕ) (stations : Stations D g) → past.begun ≡ Some number
       → (each : PartedEach past (length past.peers) stations) → IsSealable each.did.later number
   sealable_each past number stations begun each = (
@@ -200,7 +200,6 @@ module _ {D : Type 0} {g : Ghosts D} where
 
   -- ---- a flush
 
-  -- a flush that was refused
   abbrev pub FlushHalted : Past → Halt → Stations D g → Type 0
   FlushHalted past halt stations = HaltedAs RefusesFlushing (begun_at past) (flush_events past) past halt stations
 

@@ -57,7 +57,7 @@ left_sound manner past sound = record {
   parted = λ number is. absurd cc;
 }
 
--- what the intake keeps of lines, it keeps of peers that have stopped
+-- what the intake's ledger says of the peers, it says of them once they have stopped
 pub lines_left : (manner : Manner) (h : History) (peers : List PeerPast) (state : State) → KeepsLines h peers state
     → KeepsLines h (map (left_peer manner) peers) state
 lines_left manner h peers state keeps =
@@ -66,7 +66,7 @@ lines_left manner h peers state keeps =
 -- ---- at rest
 
 module _ {D : Type 0} {g : Ghosts D} where
-  -- one more has
+  -- one more has stopped
   pub halts_more : (peers : List (Peer D g)) (room now : List StoppedPeer) (peer : Peer D g) (stopped : StoppedPeer)
       → now ≡ room ++ stopped ∷ []
       → AllZip HaltsAs peers room → HaltsAs peer stopped → AllZip HaltsAs (peers ++ peer ∷ []) now
@@ -168,7 +168,7 @@ tapes_left choice past peers disks old new stands each is =
       sound = left_sound (ByChoice choice) past stands.sound;
     }
 
--- what had stopped before, and stops at rest, is as it was
+-- for a stop by a choice, it makes no difference whether the peers had stopped at rest before
 map_stopped : (choice : Choice) (peers : List PeerPast)
     → map (left_peer (ByChoice choice)) (map (left_peer AtRest) peers) ≡ map (left_peer (ByChoice choice)) peers
 map_stopped choice [] = refl
@@ -213,7 +213,7 @@ next_disks peers left disks behind peer pair done now all so_far first next is =
     ∙ sym (append_assoc done (record { conf = peer.conf; disks = pair } ∷ []) (with_disks left behind))
     ∙ ap (λ l. l ++ with_disks left behind) (sym is)
 
--- and where there are none, its own
+-- and if no disks are left, its own
 pub no_disks : (peers left : List StoppedPeer) (disks behind : List (StopDisk × StopDisk)) (peer : StoppedPeer)
     (done now all : List StoppedPeer)
     → all ≡ done ++ with_disks peers disks → peers ≡ peer ∷ left → disks ≡ behind → length disks ≡ 0
@@ -225,7 +225,7 @@ no_disks peers left disks behind peer done now all so_far first same none is =
     ∙ sym (append_assoc done (peer ∷ []) (with_disks left [])) ∙ ap (λ l. l ++ with_disks left []) (sym is)
     ∙ ap (λ ds. now ++ with_disks left ds) (sym empty ∙ same)
 
--- none is left
+-- no peer is left
 pub disks_end : (left : List StoppedPeer) (behind : List (StopDisk × StopDisk)) (done all : List StoppedPeer)
     → all ≡ done ++ with_disks left behind → length left ≡ 0
     → done ≡ all

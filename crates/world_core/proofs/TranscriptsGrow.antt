@@ -1,4 +1,4 @@
--- Transcripts that grow: what came out of one stays, and a debt is accepted only where it is offered.
+-- How transcripts grow: what came out of one stays, and a debt is accepted only if it is offered.
 use Rattle.std.proofs.Common.{◌≡◌, ◌⊎◌, ℕ, zero, suc, Bool, true, false, None, Some, List, []}
 use Rattle.std.proofs.Common.{◌∷◌, ◌++◌, length, refl, sym, ap, ◌∙◌, subst, inl, inr, append_assoc}
 use Rattle.std.specs.Prelude.{◌+◌, Contains, if◌then◌else◌, is_some, nat_lt}
@@ -21,7 +21,7 @@ use Rattle.world_core.proofs.HeldNumbers.{contains_left, out_rank}
 
 -- ---- lists
 
--- what stands in a list with one more stood there before, or is that one
+-- an element of a list with one more was there before, or is that one
 get_push : {A : Type 0} (xs : List A) (y : A) (i : ℕ) (x : A) → slice_get (xs ++ y ∷ []) i ≡ Some x
     → (slice_get xs i ≡ Some x) ⊎ (x ≡ y)
 get_push [] y zero x is = inr cc
@@ -69,7 +69,7 @@ grew_out (o ∷ os) conn =
     grew_then conn.transcript (one_out conn).transcript _ (grew_to (conn.settled + 1) conn.transcript)
     (grew_out os (one_out conn))
 
--- outcomes went to the peer, and then no more
+-- some outcomes went to the peer, and then no more
 pub grew_stopped : (rank id now : ℕ) (done left : List Outcome) (past : Past) (fault : Fault) (conn later : ConnPast)
     → StopsAt rank id now left past fault (all_out done conn) later
     → (later.rank ≡ conn.rank) × Grew conn.transcript later.transcript
@@ -124,13 +124,13 @@ module _ (options : Options) where
       grew_then h (after options h (Came reply)) later (grew_by h (Came reply) refl)
       (grew_some rest (after options h (Came reply)) later more)
 
-  -- some of the whole replies were taken, and then it broke
+  -- some of the whole replies were taken, and then the connection broke
   pub grew_broken : (waiting : List ℕ) (h mid : List Happening) → ReceivesSome options waiting h mid
       → Grew h (after options mid Broke)
   grew_broken waiting h mid some =
       grew_then h mid (after options mid Broke) (grew_some waiting h mid some) (grew_by mid Broke refl)
 
-  -- where a debt is offered, that one is accepted
+  -- if a debt is offered, only that one is accepted
   pub accepted_offered : (h : List Happening) (debt : Owing) (ticket : ℕ) (one : Owing)
       → slice_get (accepted (after options h (Offered debt))) ticket ≡ Some one
       → (slice_get (accepted h) ticket ≡ Some one) ⊎ (one ≡ debt)

@@ -1,5 +1,5 @@
--- One walk over all steps, which stands on the walk over those on tapes: what each step makes of a world, taken or
--- refused, is some events on its tapes, or a connection that is made or goes on.
+-- One walk over all steps, built on the walk over those on tapes: what each step makes of a world, taken or refused, is
+-- some events on its tapes, or a connection that is made or goes on.
 use Rattle.std.proofs.Common.{◌≡◌, ℕ, zero, suc, ◌+◌, Option, Some, List, [], ◌∷◌, ◌++◌}
 use Rattle.std.proofs.Common.{refl, sym, ap, subst, inl, inr, append-nil}
 use Rattle.std.specs.List.{AllByRecursion, slice_get}
@@ -40,8 +40,8 @@ use Rattle.world_core.proofs.WalkOverTapes.{shed_refused, strikes_keep, unreport
 
 -- ---- what follows a step on a connection
 
--- The connection was this: the first of its outcomes have gone to its peer, and it is another now, with a transcript in
--- which no further debt was accepted.
+-- The connection was this. Some of its outcomes, from the first on, have gone to its peer, and it is another now, with
+-- a transcript in which no further debt was accepted.
 pub record WentOn (id : ℕ) (conn : ConnPast) (life later : Life) : Type 0 where
   pub peer : PeerPast
   pub here : slice_get life.past.peers conn.rank ≡ Some peer
@@ -54,7 +54,7 @@ pub record WentOn (id : ℕ) (conn : ConnPast) (life later : Life) : Type 0 wher
   pub grew : (next.rank ≡ conn.rank) × Grew conn.transcript next.transcript
   pub changed : later ≡ with_conn (with_past life past) id next
 
--- where what follows has come about
+-- what follows has come about
 followed : (id : ℕ) (was : List Happening) (conn : ConnPast) (life later : Life) (outputs : List Said)
     → Follows id was conn life outputs later → WentOn id conn life later
 followed id was conn life later outputs f =
@@ -72,7 +72,7 @@ followed id was conn life later outputs f =
       changed = f.changed;
     }
 
--- and where it was refused
+-- or it was refused
 not_followed : (id : ℕ) (conn : ConnPast) (life : Life) (fault : Fault) (later : Life)
     → FollowsNot id conn life fault later → WentOn id conn life later
 not_followed id conn life fault later f = record {
@@ -90,9 +90,9 @@ not_followed id conn life fault later f = record {
 
 -- ---- what steps make
 
--- A relation of what a world was and what a step has made of it, which each kind of change brings about: its tapes
--- have changed by events of some kind, and its connections are as they were, or gone; a connection more was made; or
--- one has gone on, by what came in, by a debt that was handed to it, or as it was told the moment.
+-- A relation between a world and what a step has made of it, which each kind of change brings about: its tapes have
+-- changed by events of some kind, and its connections are as they were, or gone; one more connection was made; or one
+-- has gone on, because something came in, a debt was handed to it, or its moment was set.
 pub record Passage : Type 1 where
   pub tapes : Keeper
   pub on_claims : (rank id now : ℕ) → tapes.ON (Claims rank id now)
@@ -307,7 +307,7 @@ module _ (passage : Passage) where
   conn_refused step id R life fault later makes (inr (runs, inl none)) = same_life step life later none.2
   conn_refused step id R life fault later makes (inr (runs, inr (conn, peer, is, fails))) = makes conn peer is fails
 
-  -- a step on neither tapes nor a connection
+  -- a step that is neither on tapes nor on a connection
   world_refused : (step : Step) (R : Life → Fault → Life → Type 0) (life : Life) (fault : Fault) (later : Life)
       → (R life fault later → MAKES step life later) → RefusesWorld R life fault later → MAKES step life later
   world_refused step R life fault later makes (inl stopped) = same_life step life later stopped.2

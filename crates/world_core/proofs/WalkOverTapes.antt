@@ -1,5 +1,5 @@
--- One walk over events and steps on tapes: what events of some kind keep of all tapes, and each refused event, is kept
--- by the steps that are made of them, taken or refused, and by a stop that is met in one.
+-- One walk over events and steps on tapes: what events of some kind keep of all tapes, and what each refused event
+-- keeps, is also kept by the steps made of them, taken or refused, and by a stop that is met in one.
 use Rattle.std.proofs.Common.{◌≡◌, ◌⊎◌, ◌+◌, ℕ, zero, suc, Bool, true, false, Some, List, []}
 use Rattle.std.proofs.Common.{◌∷◌, length, refl, sym, ap, subst, inl, inr}
 use Rattle.std.specs.Prelude.{if◌then◌else◌}
@@ -37,7 +37,7 @@ pub record HasOtherTape (was now : Past) : Type 0 where
   pub changed : now ≡ with_peer was rank (with_tape peer tape)
   pub same : tape.history ≡ peer.tape.history
 
--- so it is, or the peers are as they were
+-- the same, or the peers are as they were
 abbrev pub KeepsHistories : Past → Past → Type 0
 KeepsHistories was now = (now.peers ≡ was.peers) ⊎ HasOtherTape was now
 
@@ -123,8 +123,8 @@ import_on name text past events is =
 
 -- ---- what is kept
 
--- A relation of what all tapes were and are: events of some kind keep it, those of steps on tapes among them, and so
--- does whatever leaves the peers alone, or another tape with the same notes in the place of a peer's.
+-- A relation between all tapes before and after: it is kept by events of some kind, those of steps on tapes among them,
+-- by whatever leaves the peers alone, and by putting another tape with the same notes in place of a peer's.
 pub record Keeper : Type 1 where
   pub ON : Event → Type 0
   pub on_tape : (event : Event) → OnTape event → ON event
@@ -295,7 +295,7 @@ module _ (keeper : Keeper) where
         calls_at life.past begun events (restart_events life.past) is its (restart_on life.past)
     calls_keep step life begun events calls = absurd calls
 
-    -- the tapes were under way so as a stop was met
+    -- what the tapes were when a stop was met
     meets_keeps : (step : Step) (life : Life) (stop : Armed) (under_way : Past) → Meets step life stop under_way
         → KEEPS life.past under_way
     meets_keeps step life stop under_way meets =

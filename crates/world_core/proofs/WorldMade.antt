@@ -1,4 +1,4 @@
--- Worlds as they are made: their tapes are opened.
+-- How a world is made: its tapes are opened.
 use Rattle.std.proofs.Common.{◌≡◌, ℕ, zero, suc, ◌+◌, ◌<◌, Bool, true, false, None, Some, List, [], ◌∷◌, ◌++◌, length}
 use Rattle.std.proofs.Common.{get_or, map, take, refl, sym, ap, ◌∙◌, subst, inl, arith}
 use Rattle.std.specs.Cmp.Lexicographic.{slice_cmp}
@@ -109,7 +109,7 @@ names_rise (peer ∷ given) up apart = (
   names_rise given (sorted_tail peer given up) (IsDistinct-tail bytes_eq peer.0.name (given_names given) apart),
 )
 
--- the peers in order have names that rise
+-- sorted peers have rising names
 pub sorted_rise : (given ordered : List GivenPeer) → IsPermutation given ordered → IsSortedBy is_below ordered
     → IsDistinct bytes_eq (given_names given) → NamesRise (given_names ordered)
 sorted_rise given ordered permuted up apart =
@@ -159,7 +159,7 @@ module _ {D : Type 0} {g : Ghosts D} where
     };
   }
 
-  -- that of the intake on none
+  -- that of the intake was opened on empty disks
   pub opens_empty : (old : Log) (tape : OpenTape D g) → old ≡ ([], []) → IsOpenedTape old tape → faults_of tape ≡ (0, 0)
       → (IsBroken tape → ⊥) → IsFound start tape
   opens_empty old tape log opened outputs works =
@@ -167,7 +167,7 @@ module _ {D : Type 0} {g : Ghosts D} where
       let none : opened.state ≡ start = tape_once ([], []) opened.state start there nothing_lies in
       subst (λ (state : State). IsFound state tape) none (is_found opened.state tape opened.stands outputs works)
 
--- what has happened to a disk in memory is what has happened to the disk over it
+-- what has happened to the disk beneath is what has happened to the disk that may be stopped
 pub happened_as : (disk : StopDisk) (memory : MemDisk) (log : List Event) → beneath disk ≡ memory → events memory ≡ log
     → happened disk ≡ log
 happened_as disk memory log is has = ap events is ∙ has
@@ -213,7 +213,7 @@ module _ {D : Type 0} {g : Ghosts D} where
   opens_more prefix peers new given peer all one more =
       subst (AllZip OpensGiven (prefix ++ given ∷ [])) (sym more) (zip_push OpensGiven prefix peers given peer all one)
 
-  -- behind those that were opened comes one that is refused
+  -- the peer after those that were opened is refused
   pub stops_for : (given prefix : List GivenPeer) (peers : List (Peer D g)) (peer : GivenPeer) (fault : TapesFault)
       → AllZip OpensGiven prefix peers → prefix ≡ take (length prefix) given
       → slice_get given (length prefix) ≡ Some peer → RefusesPeer peer fault
@@ -229,7 +229,7 @@ module _ {D : Type 0} {g : Ghosts D} where
   }
   stops_for given prefix peers peer NoMemory all so_far here refused = tt
 
--- the first in order is reported
+-- the first that is refused, in order, is reported
 pub refuses_tapes : (given ordered : List GivenPeer) (fault : TapesFault) → IsPermutation given ordered
     → NamesRise (given_names ordered) → StopsFor ordered fault → RefusesTapes given fault
 refuses_tapes given ordered (Tape name fault) permuted rises stops =
@@ -420,7 +420,7 @@ not_damaged octets PendingFull empty is = absurd is
 not_damaged octets NoTapeMemory empty is = absurd is
 not_damaged octets (Note fault) empty is = absurd is
 
--- none but a disk in memory refuses them
+-- only want of memory for a disk in memory refuses them
 pub make_fault : (confs : List PeerConf) (given : List GivenPeer) (name : List ℕ) (fault : TapeFault)
     → AllZip HasNoOctets confs given → RefusesFirst given name fault → IsMakeFault (FromTape fault)
 make_fault confs given name fault all is =

@@ -1,4 +1,4 @@
--- All tapes of a world are opened again, or it has stopped still.
+-- All tapes of a world are opened again, or it stays stopped.
 use Rattle.std.proofs.Common.{◌≡◌, true, false, List, [], length, map, refl, sym, ap, ◌∙◌, subst, inl, inr}
 use Rattle.std.specs.Prelude.{Vec, option_map}
 use Rattle.std.specs.declared.alloc.Global.{Global}
@@ -95,7 +95,6 @@ still_runs world life stands never = record {
   stands = stands;
 }
 
--- all tapes have stopped
 pub stop_there : (world : World) (life : Life) (peers : Vec StoppedPeer Global) (intake : StopDisk × StopDisk)
     → WorldStands world life
     → world.stage ≡ Stopped peers intake → (life.running ≡ false) × TapesStop life.past peers.items intake

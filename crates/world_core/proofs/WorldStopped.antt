@@ -1,4 +1,4 @@
--- What a stop makes of a world stands for it.
+-- What a stop makes of a world, and what stands for it.
 use Rattle.std.proofs.Common.{◌≡◌, ℕ, zero, suc, true, false, None, Some, List, [], ◌∷◌, map, refl, sym, ap, ◌∙◌, subst}
 use Rattle.std.proofs.Common.{inl, inr, arith}
 use Rattle.std.specs.Prelude.{Vec}
@@ -21,7 +21,7 @@ use Rattle.world_core.specs.declared.world.World.{World}
 use Rattle.world_core.specs.Turn.{GoesOn}
 use Rattle.world_core.proofs.TapesStopped.{left_again, tapes_left}
 
--- where there are no connections, none may hold a number
+-- with no connections, no number may be held
 pub tied_none : (life : Life) → life.conns ≡ []
     → ((rank : ℕ) (peer : PeerPast) → slice_get life.past.peers rank ≡ Some peer → HasNoneHeld peer)
     → AreTied life
@@ -41,7 +41,7 @@ tied_none life none free = record {
   none = λ stopped. none;
 }
 
--- what has stopped holds nothing
+-- no connection holds anything of what has stopped
 pub left_free : (manner : Manner) (peers : List PeerPast) (rank : ℕ) (peer : PeerPast)
     → slice_get (map (left_peer manner) peers) rank ≡ Some peer
     → HasNoneHeld peer
@@ -67,7 +67,7 @@ stands_halted old new life peers disks stands stop stage armed connected now = r
   sound = record { past = stop.sound; conns = tied_halted AtRest life.past life };
 }
 
--- a choice leaves of all disks what it does, where all has stopped
+-- all has stopped, and each disk keeps what the choice leaves of it
 stage_left : (life : Life) (choice : Choice) (peers after : Vec StoppedPeer Global)
     (disks : List (StopDisk × StopDisk)) (intake behind : StopDisk × StopDisk)
     → StageStands life (Stopped peers intake) → IsSound life.past → after.items ≡ with_disks peers.items disks
@@ -112,7 +112,6 @@ stands_left old new life choice peers after disks intake behind stands stopped w
       };
     }
 
--- all stations stop at rest
 pub halted_here : (old new : World) (life : Life) (stations : _) (conns : _) (peers : Vec StoppedPeer Global)
     (disks : StopDisk × StopDisk)
     → WorldStands old life → old.stage ≡ Running stations conns
@@ -130,7 +129,7 @@ halted_here old new life stations conns peers disks stands was stops now_is arme
       refl,
     )) armed connected now
 
--- ---- behind a refused step
+-- ---- after a refused step
 
 runs_here : (world : World) (life : Life) (stations : _) (conns : _) → WorldStands world life
     → world.stage ≡ Running stations conns → life.running ≡ true
@@ -138,7 +137,7 @@ runs_here world life stations conns stands is =
     let here : StageStands life (Running stations conns) = subst (λ (s : Stage). StageStands life s) is stands.stage in
     here.0
 
--- all stations stop, where the world runs on
+-- all stations stop, if the world runs on
 pub halted_on : (old new : World) (life now : Life) (under_way : Past) (stations : _) (conns : _)
     (peers : Vec StoppedPeer Global) (disks : StopDisk × StopDisk)
     → GoesOn life under_way now → WorldStands old now → old.stage ≡ Running stations conns
@@ -156,7 +155,7 @@ halted_on old new life now under_way stations conns peers disks (inr on) stands 
     let not = on.0 in
     absurd cc
 
--- and then a choice leaves what it does
+-- and then each disk keeps what the choice leaves of it
 pub struck_stands : (world : World) (life : Life) (under_way : Past) (choice : Choice)
     → WorldStands world (with_past (halted AtRest under_way life) (left (ByChoice choice) (left AtRest under_way)))
     → WorldStands world (halted (ByChoice choice) under_way life)

@@ -28,29 +28,29 @@ use Rattle.world_core.specs.declared.fault.Fault.TheVariants.{NoMemory, Tape}
 
 -- One event.
 pub data Event : Type 0 where
-  Owes : (rank : ℕ) (token id : List ℕ) → Event  -- the next line at a peer that it names
-  -- the line of this number of a backlog file at its peer
+  Owes : (rank : ℕ) (token id : List ℕ) → Event  -- the next line of the funnel is owed at a peer that it names
+  -- a line of a backlog file, of this number, is owed at its peer
   Imports : (rank number : ℕ) (token id : List ℕ) → Event
   Closes : (rank : ℕ) → Event  -- the source that is open at a peer is closed
-  Spills : (rank : ℕ) → Event  -- the flush of a peer while a backlog file of its is taken in
-  Parts : (rank : ℕ) → Event  -- the flush of a peer
-  Rotates : (rank generation : ℕ) → Event  -- what a peer is owed is written anew
+  Spills : (rank : ℕ) → Event  -- a peer is flushed during an import
+  Parts : (rank : ℕ) → Event  -- a peer is flushed
+  Rotates : (rank generation : ℕ) → Event  -- a peer's tape is rewritten with what it is owed
   Sheds : (rank : ℕ) (numbers : List ℕ) → Event  -- these numbers of a peer's backlog are dropped
   Claims : (rank id now : ℕ) → Event  -- a connection claims a peer's least candidate
-  Returns : (rank id number : ℕ) → Event  -- and gives it back
+  Returns : (rank id number : ℕ) → Event  -- it gives the debt back
   Settles : (rank id now : ℕ) (outcome : Outcome) → Event  -- an outcome of a connection goes to its peer
   Sees : (number : ℕ) → Event  -- a number is noted on the intake's tape
-  Acknowledges : Event  -- the flush of the intake's tape
+  Acknowledges : Event  -- the intake's tape is flushed
   Opens : (rank : ℕ) → Event  -- a peer's tape is opened
   OpensIntake : Event  -- the intake's tape is opened
 
 -- ---- what an event makes of a peer
 
--- what a line of this number that names a peer is there: new where the number is above the mark
+-- what a line of this number is at a peer that it names: new if the number is above the peer's mark
 abbrev pub owed_as : ℕ → PeerPast → Owed
 owed_as number peer = if nat_lt (mark_at peer.tape) number then New else Already
 
--- the greatest number that a peer has noted of the source that is open
+-- the greatest number noted of the source that is open
 abbrev pub import_mark_at : PeerPast → ℕ
 import_mark_at peer = (ledger_at peer.tape).import_mark
 
@@ -58,7 +58,7 @@ import_mark_at peer = (ledger_at peer.tape).import_mark
 abbrev pub open_source : PeerPast → ℕ
 open_source peer = (ledger_at peer.tape).closed + 1
 
--- what a line of this number of the source that is open is there: new if the number is above its mark
+-- what a line of this number of the open source is there: new if the number is above the source's mark
 abbrev pub imported_as : ℕ → PeerPast → Owed
 imported_as number peer = if nat_lt (import_mark_at peer) number then New else Already
 
@@ -70,7 +70,7 @@ import_key number peer = key_of (open_source peer) number
 abbrev pub closing : PeerPast → Note
 closing peer = Closed (open_source peer)
 
--- one note more, and the debt is ready, in its place by its key; or nothing
+-- if the line is new, there is one more note, and the debt is ready, in its place by its key; otherwise nothing changes
 abbrev pub owing_as : Owed → ℕ → List ℕ → List ℕ → PeerPast → PeerPast
 owing_as New number token id peer = record peer {
   tape = noted_at peer.tape (Owe number token id);
@@ -92,7 +92,7 @@ opened_peer peer tape = record {
   parted = false;
 }
 
--- a peer whose tape was read, and of which this connection holds this number now
+-- a peer whose tape was read, and one of whose numbers this connection now holds
 abbrev pub claimed_peer : (id number : ℕ) → TapePast → PeerPast → PeerPast
 claimed_peer id number tape peer =
     record { conf = peer.conf; tape = tape; places = moved peer.places number (Held id); parted = peer.parted }
@@ -104,7 +104,7 @@ shed_peer numbers peer = record peer {
   places = all_gone peer.places numbers;
 }
 
--- what has become of a debt of this number makes this of its peer: it ends by a note, or has another place
+-- what becomes of the peer as a debt of this number is settled: the debt ends by a note, or has another place
 abbrev pub settled_as : Settled → ℕ → PeerPast → PeerPast
 settled_as (Answered code) number peer =
     record peer { tape = noted_at peer.tape (Final number code); places = gone peer.places number }
@@ -113,7 +113,7 @@ settled_as (Dropped cause) number peer =
 settled_as (Later moment) number peer = with_places peer (moved peer.places number (LaterPlace moment))
 settled_as Back number peer = with_places peer (moved peer.places number Ready)
 
--- what becomes of the debt of an outcome that is reported to its peer at this moment
+-- what becomes of the debt of an outcome that goes to its peer at this moment
 abbrev pub settling : PeerPast → ℕ → Outcome → Settled
 settling peer now outcome = settled_by (limits_of peer.conf) now outcome
 
@@ -121,7 +121,7 @@ settling peer now outcome = settled_by (limits_of peer.conf) now outcome
 abbrev pub settled : ℕ → Outcome → PeerPast → PeerPast
 settled now outcome peer = settled_as (settling peer now outcome) (key_in outcome) peer
 
--- the mark of the intake rises to a number that is above it
+-- the mark of the intake rises to a number, if that is above it
 abbrev pub seen : ℕ → TapePast → TapePast
 seen number tape = if nat_lt (mark_at tape) number then noted_at tape (Seen number) else tape
 
@@ -130,8 +130,8 @@ pub record IsCandidate (now : ℕ) (peer : PeerPast) (debt : Owing) : Type 0 whe
   pub least : least_candidate now peer.places ≡ Some debt.0
   pub owed : Contains (ledger_at peer.tape).debts debt
 
--- what of a peer's backlog is dropped: the shed set, or so much of its front as there is room for; no connection
--- holds any of it
+-- what of a peer's backlog is dropped: the shed set, or the prefix of it for which there is room; no connection holds
+-- any of it
 pub record IsShedAt (peer : PeerPast) (numbers : List ℕ) : Type 0 where
   pub set : List ℕ
   pub is_set : IsShedSet (limits_of peer.conf) (ledger_at peer.tape) peer.places set
@@ -168,7 +168,7 @@ pub record DoesClose (rank : ℕ) (past later : Past) : Type 0 where
   pub fits : Overflows (ledger_at peer.tape) (closing peer) → ⊥
   pub changed : later ≡ with_peer past rank (with_tape peer (noted_at peer.tape (closing peer)))
 
--- it is no flush since a number was kept
+-- during an import; this is not the flush since a number was kept
 pub record DoesSpill (rank : ℕ) (past later : Past) : Type 0 where
   pub peer : PeerPast
   pub tape : TapePast
@@ -239,7 +239,7 @@ pub record DoesOpen (rank : ℕ) (past later : Past) : Type 0 where
   pub opens : IsReopened (KeepsNotes peer) peer.tape tape
   pub changed : later ≡ with_peer past rank (opened_peer peer tape)
 
--- behind whose mark the lines go on
+-- the number of the last line goes on from the tape's mark
 pub record DoesOpenIntake (past later : Past) : Type 0 where
   pub tape : TapePast
   pub opens : IsReopened (KeepsLines past.intake.history past.peers) past.intake tape
@@ -262,9 +262,9 @@ Does Acknowledges past later = DoesAcknowledge past later
 Does (Opens rank) past later = DoesOpen rank past later
 Does OpensIntake past later = DoesOpenIntake past later
 
--- Events one after another, in this order; and behind each of them whatever a stop leaves is safe. If all are taken,
--- this shows only what each tape has been through. In which order a step comes to two tapes is settled by how it is
--- refused (`Fails`): any event may be refused, and then those before it stand, and none behind it.
+-- Events one after another, in this order; after each of them whatever a stop leaves is safe. If all are taken, this
+-- shows only what each tape has been through. The order in which a step comes to two tapes shows in how it is refused
+-- (`Fails`): any event may be refused, and then those before it stand, and none after it.
 pub data AllDo (begun : Past) : List Event → Past → Type 0 where
   Start : AllDo begun [] begun
   Next : (events : List Event) (event : Event) (past later : Past) → AllDo begun events past → Does event past later
@@ -273,7 +273,7 @@ pub data AllDo (begun : Past) : List Event → Past → Type 0 where
 
 -- ---- refusals
 
--- the event at the peer of this rank is refused so, and leaves this tape of it
+-- the event at the peer of this rank is refused, for this fault and with this tape left of the peer
 pub record RefusesAt (R : PeerPast → Fault → TapePast
     → Type 0) (rank : ℕ) (past : Past) (fault : Fault) (later : Past) : Type 0 where
   pub peer : PeerPast
@@ -282,14 +282,14 @@ pub record RefusesAt (R : PeerPast → Fault → TapePast
   pub refused : R peer fault tape
   pub changed : later ≡ with_peer past rank (with_tape peer tape)
 
--- the event at the intake's tape is refused so
+-- the event at the intake's tape is refused, for this fault and with this tape left
 pub record RefusesIntake (R : TapePast → Fault → TapePast → Type 0) (past : Past) (fault : Fault) (later : Past) :
     Type 0 where
   pub tape : TapePast
   pub refused : R past.intake fault tape
   pub changed : later ≡ with_intake past tape
 
--- a line that a peer is not owed yet, under this key; a broken tape refuses any
+-- a line that is new to a peer under this key is refused; a broken tape refuses any line
 abbrev pub RefusesLineAt : (PeerPast → Owed) → (PeerPast → ℕ) → List ℕ → List ℕ → PeerPast → Fault → TapePast → Type 0
 RefusesLineAt owed key token id peer fault tape =
     (peer.tape.broken ≡ false → owed peer ≡ New) × RefusesOwe peer.tape (Owe (key peer) token id) fault
@@ -300,14 +300,14 @@ abbrev pub RefusesEnd : Settled → TapePast → Fault → Type 0
 RefusesEnd settled tape fault = ((fault ≡ Tape Broken) × (tape.broken ≡ true))
     ⊎ (IsEnded settled × RefusesNote tape fault)
 
--- a call that changes no tape is refused: the tape is broken, or memory is wanted
+-- a call that changes no tape is refused: the tape is broken, or memory was refused
 abbrev pub RefusesCall : Type 0 → PeerPast → Fault → TapePast → Type 0
 RefusesCall Wants peer fault tape =
     (((fault ≡ Tape Broken) × (peer.tape.broken ≡ true)) ⊎ ((fault ≡ NoMemory) × (peer.tape.broken ≡ false) × Wants))
     × (tape ≡ peer.tape)
 
--- a claim: the tape is broken; or there is a candidate, whose texts were read, and memory is wanted or a disk told a
--- fault
+-- a claim is refused: the tape is broken; or there is a candidate, and memory was refused, or a disk failed as its
+-- texts were read
 abbrev pub RefusesClaim : ℕ → PeerPast → Fault → TapePast → Type 0
 RefusesClaim now peer fault tape =
     (((fault ≡ Tape Broken) × (peer.tape.broken ≡ true))
@@ -315,7 +315,7 @@ RefusesClaim now peer fault tape =
     × ((fault ≡ NoMemory) ⊎ ((fault ≡ Tape Disk) × OneHasRisen peer.tape.faults tape.faults))))
     × IsReadTape peer.tape tape
 
--- An event is refused for this fault, and nothing of it has happened, but that a disk's fault breaks its tape.
+-- An event is refused for this fault. Nothing of it has happened, except that a failing disk breaks its tape.
 abbrev pub Refuses : Event → Past → Fault → Past → Type 0
 Refuses (Owes rank token id) past fault later =
     RefusesAt (RefusesLineAt (owed_as (past.last + 1)) (λ (peer : PeerPast). past.last + 1) token id) rank past fault
@@ -350,7 +350,7 @@ Refuses (Opens rank) past fault later =
 Refuses OpensIntake past fault later =
     RefusesIntake (RefusesOpen (KeepsLines past.intake.history past.peers)) past fault later
 
--- of these events some were taken, from the first on, and the next was refused
+-- some of these events were taken, from the first on, and the next was refused
 pub record Fails (begun : Past) (events : List Event) (fault : Fault) (later : Past) : Type 0 where
   pub count : ℕ
   pub mid : Past

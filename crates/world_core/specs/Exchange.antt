@@ -1,6 +1,6 @@
--- The steps on connections (docs/FORMATS.md): each puts something into a transcript, and then its outcomes go to the
--- peer's station, oldest first, each an event; its output counts as sent; and what it wants, and why it closed, is
--- told.
+-- The steps on connections (docs/FORMATS.md): each puts something into a transcript. Then the outcomes go to the peer's
+-- station, oldest first, each an event; the output counts as sent; and the wanted article, and the reason of a close,
+-- are reported.
 use Rattle.std.specs.Prelude.{◌≡◌, ◌⊎◌, ◌+◌, ◌<◌, ◌^◌, ℕ, false, None, Some, List, [], ◌∷◌, ◌++◌, length, drop}
 use Rattle.std.specs.Prelude.{if◌then◌else◌, map, nat_lt, slice_get}
 use Rattle.ledger_core.specs.State.{Owing}
@@ -28,20 +28,20 @@ use Rattle.world_core.specs.declared.output.Handed.TheVariants.{Busy, Closed, De
 
 -- ---- what follows a step on a connection
 
--- the outcomes that are still to go to its peer
+-- the outcomes that have not gone to its peer yet
 abbrev pub unsettled : Options → ConnPast → List Outcome
 unsettled options conn = drop conn.settled (outcomes options conn.transcript)
 
--- one outcome more is taken from a connection, unless so many are already
+-- one more outcome is taken from a connection, unless this many are taken already
 abbrev pub out_to : ℕ → List Happening → List Happening
 out_to count h = if nat_lt (taken h) count then Taken ∷ h else h
 
--- the next outcome is taken, unless it was before, and goes to the peer
+-- the next outcome goes to the peer, and is taken, unless it was taken before
 abbrev pub one_out : ConnPast → ConnPast
 one_out conn =
     record conn { transcript = out_to (conn.settled + 1) conn.transcript; settled = conn.settled + 1 }
 
--- so many do, one after another
+-- all these do, one after another
 abbrev pub all_out : List Outcome → ConnPast → ConnPast
 all_out [] conn = conn
 all_out (outcome ∷ rest) conn = all_out rest (one_out conn)
@@ -65,7 +65,7 @@ sent_all options conn = record conn {
   transcript = noted options conn.transcript (Sent (length (output options conn.transcript)));
 }
 
--- what the step leaves of it then
+-- what is left of the connection then
 abbrev pub followed_up : Options → ConnPast → ConnPast
 followed_up options conn = sent_all options (settled_out options conn)
 
@@ -73,7 +73,7 @@ followed_up options conn = sent_all options (settled_out options conn)
 abbrev pub settle_events : (rank id now : ℕ) → List Outcome → List Event
 settle_events rank id now outcomes = map (λ (outcome : Outcome). Settles rank id now outcome) outcomes
 
--- what is reported then, of a connection whose transcript was this before the step
+-- what is reported then, if the connection's transcript was this before the step
 abbrev pub exchange_said : Limits → Options → (id now : ℕ) → (was : List Happening) → ConnPast → List Said
 exchange_said limits options id now was conn =
     map (λ (outcome : Outcome). Settled id (key_in outcome) (settled_by limits now outcome)) (unsettled options conn)
@@ -91,15 +91,15 @@ pub record Follows (id : ℕ) (was : List Happening) (conn : ConnPast) (life : L
   pub outputs_are : outputs ≡ exchange_said (limits_of peer.conf) (options_of peer.conf) id life.now was conn
   pub changed : later ≡ with_conn (with_past life past) id (followed_up (options_of peer.conf) conn)
 
--- Why no outcome of these goes to the peer at this rank any more, and what this makes of the connection: memory is
--- refused, with which they are reported; or the first of them is, and waits.
+-- Why no further outcome of these goes to the peer at this rank, and what becomes of the connection: memory for the
+-- report is refused; or the first of these outcomes is refused, and waits.
 abbrev pub StopsAt : (rank id now : ℕ) → List Outcome → Past → Fault → (conn later : ConnPast) → Type 0
 StopsAt rank id now outcomes past fault conn later =
     ((fault ≡ NoMemory) × (later ≡ conn))
     ⊎ ((outcome : Outcome) × (rest : List Outcome) × (outcomes ≡ outcome ∷ rest)
     × Refuses (Settles rank id now outcome) past fault past × (later ≡ waiting conn))
 
--- Only the first outcomes went to the peer; the others are still to go, and no octet counts as sent.
+-- Only a prefix of the outcomes went to the peer; the others have not gone yet, and no octet counts as sent.
 pub record FollowsNot (id : ℕ) (conn : ConnPast) (life : Life) (fault : Fault) (later : Life) : Type 0 where
   pub peer : PeerPast
   pub here : slice_get life.past.peers conn.rank ≡ Some peer
@@ -128,7 +128,7 @@ pub record TakesConnect (name : List ℕ) (life : Life) (outputs : List Said) (l
     connected = life.connected + 1;
   }
 
--- refused, it leaves its number to the next one
+-- a refused connect takes no number: the next connection gets it
 abbrev pub RefusesConnect : List ℕ → Life → Fault → Life → Type 0
 RefusesConnect name life fault later =
     (((fault ≡ NoPeer) × (rank_of life.past name ≡ None))
@@ -138,9 +138,9 @@ RefusesConnect name life fault later =
 
 -- ---- the least candidate is handed over
 
--- What became of it: none where there is no candidate, which may be read from the tape; else the least is claimed,
--- and offered, or given back where the connection has no room or is closed. Then the connection has this transcript,
--- and all tapes are so.
+-- What became of it. If there is no candidate, there is none to hand over; the tape may have been read. Otherwise the
+-- least is claimed, and offered, or given back if the connection has no room or is closed. Then the connection has this
+-- transcript, and all tapes are these.
 pub data HandsOver (id now : ℕ) (conn : ConnPast) (peer : PeerPast) (past : Past) : Handover → List Happening → Past
     → Type 0 where
   None_there : (tape : TapePast) → peer.tape.broken ≡ false → least_candidate now peer.places ≡ None
@@ -177,7 +177,7 @@ pub record TakesHand (id : ℕ) (life : Life) (outputs : List Said) (later : Lif
   pub follows : Follows id conn.transcript (with_transcript conn transcript) (with_past life past) behind later
   pub outputs_are : outputs ≡ Handed id handed ∷ behind
 
--- Memory was refused for what it tells; or the claim was; or the offer was refused memory, and the debt is given
+-- Memory was refused for the report; or the claim was refused; or the offer was refused memory, and the debt is given
 -- back; or what follows was refused.
 abbrev pub FailsToHand : ℕ → Life → ConnPast → PeerPast → Fault → Life → Type 0
 FailsToHand id life conn peer fault later =
@@ -202,8 +202,8 @@ pub record TakesBytes (id : ℕ) (octets : List ℕ) (life : Life) (outputs : Li
   pub receives : Receives (options_of peer.conf) (conn.unread ++ octets) conn.transcript transcript left
   pub follows : Follows id conn.transcript (record conn { unread = left; transcript = transcript }) life outputs later
 
--- Memory was refused to the reader: some of the whole replies were taken, and the connection is broken, of which no
--- outcome is taken; or what follows was refused.
+-- Memory was refused to the reader: some of the whole replies were taken, and the connection is broken, with no outcome
+-- taken; or what follows was refused.
 abbrev pub FailsToRead : ℕ → List ℕ → Life → ConnPast → PeerPast → Fault → Life → Type 0
 FailsToRead id octets life conn peer fault later =
     ((fault ≡ NoMemory) × ((mid : List Happening)
@@ -251,7 +251,7 @@ pub record TakesBreak (id : ℕ) (life : Life) (outputs : List Said) (later : Li
 abbrev pub FailsToBreak : ℕ → Life → ConnPast → PeerPast → Fault → Life → Type 0
 FailsToBreak id life conn peer fault later = FollowsNot id (broken_off peer conn) life fault later
 
--- a step on a connection that is not there is refused, and any other so
+-- a step on a connection that is not there is refused; one on any other, as this says
 abbrev pub RefusesOn : ℕ → Life → (ConnPast → PeerPast → Fault → Life → Type 0) → Fault → Life → Type 0
 RefusesOn id life Fails fault later =
     ((fault ≡ NoConnection) × (conn_at life.conns id ≡ None) × (later ≡ life))
@@ -259,11 +259,11 @@ RefusesOn id life Fails fault later =
 
 -- ---- the moment
 
--- the moment is the world's, from the step's start on
+-- the world's moment is this from the start of the step
 abbrev pub at_moment : ℕ → Life → Life
 at_moment now life = record life { now = now }
 
--- a connection that was told this moment
+-- a connection once this is its moment
 abbrev pub ticked : ℕ → PeerPast → ConnPast → ConnPast
 ticked now peer conn = record conn {
   unread = left_behind (options_of peer.conf) conn.unread
@@ -271,8 +271,8 @@ ticked now peer conn = record conn {
   transcript = outside (options_of peer.conf) conn.transcript (Tick now);
 }
 
--- so many connections were told the moment, in the order of their numbers, and what follows has come about of each in
--- turn
+-- the moment was set of this many connections, in the order of their numbers, and what follows has come about for each
+-- in turn
 pub data TicksEach (begun : Life) : ℕ → List Said → Life → Type 0 where
   Start : TicksEach begun 0 [] begun
   Next : (count : ℕ) (outputs more : List Said) (mid later : Life) (id : ℕ) (conn : ConnPast) (peer : PeerPast)
@@ -284,7 +284,7 @@ pub data TicksEach (begun : Life) : ℕ → List Said → Life → Type 0 where
 abbrev pub TakesTick : ℕ → Life → List Said → Life → Type 0
 TakesTick now life outputs later = TicksEach (at_moment now life) (length life.conns) outputs later
 
--- so many were, and what follows was refused of the next
+-- the moment was set of this many, and what follows was refused for the next
 pub record RefusesTick (now : ℕ) (life : Life) (fault : Fault) (later : Life) : Type 0 where
   pub count : ℕ
   pub outputs : List Said

@@ -11,7 +11,7 @@ use Rattle.world_core.specs.declared.fault.Fault.{Fault}
 use Rattle.world_core.specs.declared.fault.Fault.TheVariants.{NoPeer, NoConnection, Stopped, Running, NotNeeded, Tape}
 use Rattle.world_core.specs.declared.fault.Fault.TheVariants.{CountFull, NoMemory as NoStepMemory, NotFlushed}
 
--- want of memory is the step's own, and any other fault stands behind `Tape`
+-- want of memory is the step's own fault, and any other is a tape's
 abbrev pub fault_of : TapeFault → Fault
 fault_of (Damaged segment at) = Tape (Damaged segment at)
 fault_of Disk = Tape Disk
@@ -22,15 +22,15 @@ fault_of PendingFull = Tape PendingFull
 fault_of NoMemory = NoStepMemory
 fault_of (Note fault) = Tape (Note fault)
 
--- A broken station is reported as its tape. No step has a station settle what is not held, so that its name is free
--- here.
+-- A broken station is reported as a broken tape. No step makes a station settle what it does not hold, so any value
+-- will do for that fault.
 abbrev pub fault_of_station : StationFault → Fault
 fault_of_station NotHeld = NoConnection
 fault_of_station BrokenStation = Tape Broken
 fault_of_station (StationTape fault) = fault_of fault
 fault_of_station NoStationMemory = NoStepMemory
 
--- the words for why a step is refused, with those for the tape's fault within
+-- the words for why a step is refused; `Tape` is followed by the tape's fault
 abbrev pub fault_name : Fault → List ℕ
 fault_name NoPeer = codes "NoPeer"
 fault_name NoConnection = codes "NoConnection"

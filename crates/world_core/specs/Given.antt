@@ -35,7 +35,7 @@ given_octets given = (given.1.items, [])
 abbrev pub given_names : List GivenPeer → List (List ℕ)
 given_names given = map (λ (peer : GivenPeer). peer.0.name) given
 
--- the peer whose tape they are: it begins from the ledger that was read there
+-- the peer of this tape, whose history begins from the ledger that was read there
 pub record IsGivenPeer (given : GivenPeer) (peer : PeerPast) : Type 0 where
   pub state : State
   pub was : IsTape (given_octets given) state
@@ -56,7 +56,7 @@ pub record BeginsFrom (given : List GivenPeer) (world : World) : Type 0 where
 
 -- ---- a tape is refused
 
--- these octets are refused for this fault: they are no tape, or a disk in memory was refused it
+-- these octets are refused for this fault: they are no tape, or memory was refused to a disk in memory
 abbrev pub RefusesTape : Octets → TapeFault → Type 0
 RefusesTape octets (Damaged segment at) = IsNoTapeAt octets segment at
 RefusesTape octets Disk = Unit {0}
@@ -67,7 +67,7 @@ RefusesTape octets PendingFull = ⊥
 RefusesTape octets NoTapeMemory = ⊥
 RefusesTape octets (Note fault) = ⊥
 
--- of these peers the one of this name is the first that is refused: all before it have tapes
+-- the peer of this name is the first that is refused: the octets of all before it are tapes
 pub record StopsAt (given : List GivenPeer) (name : List ℕ) (fault : TapeFault) : Type 0 where
   pub rank : ℕ
   pub peer : GivenPeer
@@ -76,7 +76,7 @@ pub record StopsAt (given : List GivenPeer) (name : List ℕ) (fault : TapeFault
   pub before : AllByRecursion (λ (other : GivenPeer). IsSomeTape (given_octets other)) (take rank given)
   pub why : RefusesTape (given_octets peer) fault
 
--- so it is in byte order of the names
+-- the same, in byte order of the names
 pub record RefusesFirst (given : List GivenPeer) (name : List ℕ) (fault : TapeFault) : Type 0 where
   pub ordered : List GivenPeer
   pub permuted : IsPermutation given ordered
@@ -88,7 +88,7 @@ abbrev pub RefusesTapes : List GivenPeer → TapesFault → Type 0
 RefusesTapes given (Tape name fault) = RefusesFirst given name fault
 RefusesTapes given NoMemory = Unit {0}
 
--- ---- while they are opened
+-- ---- the openings under way
 
 -- the openings of these, in this order, came to this fault
 abbrev pub StopsFor : List GivenPeer → TapesFault → Type 0
@@ -100,11 +100,11 @@ abbrev pub RefusesPeer : GivenPeer → TapesFault → Type 0
 RefusesPeer given (Tape name fault) = (given.0.name ≡ name) × RefusesTape (given_octets given) fault
 RefusesPeer given NoMemory = Unit {0}
 
--- a tape of this ledger to whose disks this has happened, as it was opened
+-- a tape of this ledger, on disks to which this has happened, as it was opened
 abbrev pub found_tape : State → Log → TapePast
 found_tape state log = record { history = found state; log = log; faults = (0, 0); broken = false }
 
--- the peer of these settings on it
+-- the peer of these settings on that tape
 abbrev pub found_peer : PeerConf → State → Log → PeerPast
 found_peer conf state log =
     record { conf = conf; tape = found_tape state log; places = all_ready (keys state); parted = false }

@@ -35,11 +35,11 @@ pub record AreLeftBy (choice : Choice) (old new : StopDisk × StopDisk) : Type 0
   pub first : Image (happened old.0) (chosen_image choice (happened old.0))
   pub second : Image (happened old.1) (chosen_image choice (happened old.1))
 
--- a choice leaves these of a peer's disks
+-- a choice leaves these disks of a peer
 abbrev pub IsLeftOf : Choice → StoppedPeer → StopDisk × StopDisk → Type 0
 IsLeftOf choice peer disks = AreLeftBy choice peer.disks disks
 
--- each peer has these disks in the place of its own, as far as there are some
+-- each peer has these disks in place of its own, as far as there are any
 abbrev pub with_disks : List StoppedPeer → List (StopDisk × StopDisk) → List StoppedPeer
 with_disks [] disks = []
 with_disks (peer ∷ peers) [] = peer ∷ with_disks peers []

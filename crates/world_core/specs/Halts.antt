@@ -1,4 +1,4 @@
--- Stops and restarts (docs/FORMATS.md): what a stop makes of a world, what may be met in a step, and how all is
+-- Stops and restarts (docs/FORMATS.md): what a stop makes of a world, how a stop is met in a step, and how all is
 -- opened again.
 use Rattle.std.specs.Prelude.{◌≡◌, ◌⊎◌, ℕ, zero, suc, true, false, Option, None, Some, List, [], ◌∷◌, ◌++◌, length, map}
 use Rattle.std.specs.Prelude.{take, slice_get}
@@ -21,13 +21,13 @@ use Rattle.world_core.specs.declared.step.Step.TheVariants.{Rotate, Stop, Restar
 
 -- ---- what a stop makes of a world
 
--- A stop at rest leaves what has happened to each disk as it is; any other leaves of each disk what its choice does,
--- on a new one.
+-- A stop at rest leaves what has happened to each disk as it is. Any other puts what its choice leaves of each disk on
+-- a new one.
 pub data Manner : Type 0 where
   AtRest : Manner
   ByChoice : (choice : Choice) → Manner
 
--- a tape that has stopped: what pended lies on its disks or not
+-- a tape that has stopped: its pending notes may or may not be on its disks
 abbrev pub left_tape : Manner → TapePast → TapePast
 left_tape AtRest tape = record tape { broken = false }
 left_tape (ByChoice choice) tape =
@@ -36,7 +36,7 @@ left_tape (ByChoice choice) tape =
 abbrev pub left_peer : Manner → PeerPast → PeerPast
 left_peer manner peer = record { conf = peer.conf; tape = left_tape manner peer.tape; places = []; parted = false }
 
--- all tapes, each left so; no number is kept
+-- all tapes after a stop; no number is kept
 abbrev pub left : Manner → Past → Past
 left manner past = record {
   peers = map (left_peer manner) past.peers;
@@ -45,7 +45,7 @@ left manner past = record {
   begun = None;
 }
 
--- A world whose tapes were under way so has stopped: connections are gone and no stop is armed; numbers of
+-- A world that has stopped while its tapes were these: connections are gone and no stop is armed; the numbers of
 -- connections and the moment go on.
 abbrev pub halted : Manner → Past → Life → Life
 halted manner under_way life = record {
@@ -66,7 +66,7 @@ IsTapeOf past None (Some rank) = ⊥
 IsTapeOf past (Some name) None = ⊥
 IsTapeOf past (Some name) (Some rank) = rank_of past name ≡ Some rank
 
--- in the place of any that was; all else stays
+-- in place of any that was; all else stays
 abbrev pub armed_with : Armed → Life → Life
 armed_with stop life = record life { armed = Some stop }
 
@@ -78,7 +78,7 @@ TakesStop peer (suc calls) choice life outputs later =
     (rank : Option ℕ) × IsTapeOf life.past peer rank × (outputs ≡ [])
     × (later ≡ armed_with (record { rank = rank; call = suc calls; choice = choice }) life)
 
--- all has stopped before, or there is no memory; or no peer has the name
+-- at call 0 all has stopped already, or memory was refused; at any other no peer has the name
 abbrev pub RefusesStop : Option (List ℕ) → ℕ → Life → Fault → Life → Type 0
 RefusesStop peer zero life fault later =
     (((fault ≡ HasStopped) × (life.running ≡ false)) ⊎ ((fault ≡ NoMemory) × (life.running ≡ true))) × (later ≡ life)
@@ -98,14 +98,14 @@ pub record TakesRestart (life : Life) (outputs : List Said) (later : Life) : Typ
   pub outputs_are : outputs ≡ map mark_said past.peers
   pub changed : later ≡ record life { past = past; running = true }
 
--- an opening was refused, those before it stand; or memory was, behind any of them
+-- an opening was refused, and those before it stand; or memory was refused, after some of them
 abbrev pub FailsToOpen : Past → Fault → Past → Type 0
 FailsToOpen past fault under_way =
     Fails past (restart_events past) fault under_way
     ⊎ ((fault ≡ NoMemory) × ((count : ℕ) × AllDo past (take count (restart_events past)) under_way))
 
--- Nothing has stopped; or the openings were refused, and all has stopped still, its disks as the openings left them.
--- A stop that is armed stays so. No number of a line is read while all is stopped.
+-- Nothing has stopped; or an opening was refused, and all stays stopped, its disks as the openings left them. An armed
+-- stop stays armed. No line's number is read while all is stopped.
 abbrev pub RefusesRestart : Life → Fault → Life → Type 0
 RefusesRestart life fault later =
     ((fault ≡ Running) × (life.running ≡ true) × (later ≡ life))
@@ -114,9 +114,9 @@ RefusesRestart life fault later =
 
 -- ---- a stop is met
 
--- The events of the steps that call disks, and the tapes at which they begin. They are those that the step takes, but
--- for a rotation: which generation it answers shows only if it is taken, and no refusal looks at the 0 here. No other
--- step meets a stop.
+-- The events of the steps that call disks, and the tapes at which they begin. They are those that the step takes,
+-- except for a rotation: its generation shows only if it is taken, and no refusal looks at the 0 here. No other step
+-- meets a stop.
 abbrev pub CallsDisks : Step → Life → Past → List Event → Type 0
 CallsDisks (Line text) life begun events = ⊥
 CallsDisks Flush life begun events =
@@ -144,8 +144,8 @@ CallsDisks (Stop peer call choice) life begun events = ⊥
 CallsDisks Restart life begun events = (life.running ≡ false) × (begun ≡ life.past)
     × (events ≡ restart_events life.past)
 
--- An armed stop was met: of the step's events some were taken, from the first on, and in the next, at the tape that
--- the stop names, a disk failed.
+-- An armed stop was met: some of the step's events were taken, from the first on, and in the next, at the tape that the
+-- stop names, a disk failed.
 pub record Meets (step : Step) (life : Life) (stop : Armed) (under_way : Past) : Type 0 where
   pub armed : life.armed ≡ Some stop
   pub begun : Past
@@ -160,7 +160,7 @@ pub record Meets (step : Step) (life : Life) (stop : Armed) (under_way : Past) :
   pub met : Refuses event mid (Tape Disk) under_way
   pub before : IsSafe under_way
 
--- then each disk, also of the tapes that were at rest, is left by the stop's choice, and the step tells that alone
+-- each disk, also of tapes that were at rest, has what the stop's choice leaves, and the step reports only the stop
 pub record Strikes (step : Step) (life : Life) (outputs : List Said) (later : Life) : Type 0 where
   pub stop : Armed
   pub under_way : Past
@@ -168,7 +168,7 @@ pub record Strikes (step : Step) (life : Life) (outputs : List Said) (later : Li
   pub outputs_are : outputs ≡ Stopped ∷ []
   pub changed : later ≡ halted (ByChoice stop.choice) under_way life
 
--- or, where there is no memory for what the choice leaves, all has stopped as at rest
+-- or, if there is no memory for what the choice leaves, all has stopped as at rest
 pub record StrikesUnreported (step : Step) (life : Life) (fault : Fault) (later : Life) : Type 0 where
   pub stop : Armed
   pub under_way : Past

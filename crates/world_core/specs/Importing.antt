@@ -1,4 +1,4 @@
--- What the calls make of the stations by which a backlog file is taken in.
+-- What the calls of an import make of the stations.
 use Rattle.std.specs.Prelude.{◌≡◌, ◌≢◌, ◌⊎◌, ◌+◌, ℕ, true, nat_lt, if◌then◌else◌, Some, List, [], ◌∷◌, ◌++◌}
 use Rattle.std.specs.Prelude.{length, slice_get}
 use Rattle.disk_model.specs.declared.Disk.{Ghosts}
@@ -19,17 +19,17 @@ use Rattle.world_core.specs.declared.fault.Fault.TheVariants.{Tape}
 use Rattle.world_core.specs.declared.imports.BacklogLine.{BacklogLine}
 use Rattle.world_core.specs.declared.stations.Stations.{Stations}
 
--- a good line by what it carries
+-- a good line, by what it carries
 abbrev pub good_of : BacklogLine → Good
 good_of line = (line.number, (line.token, line.id))
 
--- the line of this number is one more of the good ones, or is malformed
+-- the line of this number is good and is added, or is malformed
 abbrev pub Gains : (number : ℕ) → (line : List ℕ) → (old new : List Good) → Type 0
 Gains number line old new =
     ((token id : List ℕ) × IsBacklogLine line token id × (new ≡ old ++ (number, (token, id)) ∷ []))
     ⊎ ((fault : LineFault) × HasFault line fault × (fault ≢ NoMemory) × (new ≡ old))
 
--- at the peer of this rank this source is open, with this mark, and so many notes pend
+-- at the peer of this rank this source is open, with this mark, and this many notes pend
 pub record IsAt (past : Past) (rank source pending mark : ℕ) : Type 0 where
   pub peer : PeerPast
   pub here : slice_get past.peers rank ≡ Some peer
@@ -37,16 +37,16 @@ pub record IsAt (past : Past) (rank source pending mark : ℕ) : Type 0 where
   pub pending_is : length (pending_notes peer.tape.history) ≡ pending
   pub mark_is : import_mark_at peer ≡ mark
 
--- how an answer counts among those that are new
+-- 1 if the line is new
 abbrev pub one_new : Owed → ℕ
 one_new New = 1
 one_new Already = 0
 
--- a flush of its tape failed before, so that nothing more is taken there
+-- a flush of its tape has failed, so that it takes nothing more
 abbrev pub IsBrokenAt : Past → ℕ → Type 0
 IsBrokenAt past rank = (peer : PeerPast) × (slice_get past.peers rank ≡ Some peer) × (peer.tape.broken ≡ true)
 
--- the events that make room for a line of this number, and how many notes pend then
+-- the events that make room for a line of this number, and how many notes pend after them
 abbrev pub room_for : (rank pending mark number : ℕ) → List Event
 room_for rank pending mark number = if nat_lt mark number then room_events rank pending else []
 
@@ -64,7 +64,7 @@ module _ {D : Type 0} {g : Ghosts D} where
     pub did : Did past events stations
     pub at : IsAt did.later rank source pending mark
 
-  -- or nothing was, since its tape is broken
+  -- or none was, since its tape is broken
   pub record BrokeAt (past : Past) (rank : ℕ) (fault : Fault) (stations : Stations D g) : Type 0 where
     pub broken : IsBrokenAt past rank
     pub fault_is : fault ≡ Tape Broken
@@ -79,7 +79,7 @@ module _ {D : Type 0} {g : Ghosts D} where
   MadeNoRoom past events rank fault stations =
       BrokeAt past rank fault stations ⊎ Failed past events fault stations
 
-  -- of all lines those before the rest were owed, and so many of them are new
+  -- all the lines before the rest were owed, and this many of them are new
   pub record HasImported (past : Past) (rank source pending mark : ℕ) (all rest : List Good) (new : ℕ)
       (stations : Stations D g) : Type 0 where
     pub events : List Event

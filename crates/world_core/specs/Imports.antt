@@ -1,4 +1,4 @@
--- Backlog files that are taken in (docs/FORMATS.md): the good lines of a text, and the events that they are at a peer.
+-- Imports of backlog files (docs/FORMATS.md): the good lines of a text, and the events at its peer.
 use Rattle.std.specs.Prelude.{◌≡◌, ◌≢◌, ◌+◌, ◌==◌, ℕ, nat_lt, if◌then◌else◌, Some, List, [], ◌∷◌, ◌++◌, length}
 use Rattle.std.specs.Prelude.{map, slice_get}
 use Rattle.funnel.specs.Line.{HasFault, IsBacklogLine}
@@ -26,8 +26,8 @@ pub data AreGood : List (List ℕ) → List Good → Type 0 where
       → HasFault line fault → fault ≢ NoMemory
       → AreGood (lines ++ line ∷ []) good
 
--- These are the good ones of a text's lines, of which no more is looked at than shows that they are too long. A rest
--- without LF is no line.
+-- These are the good lines of a text. A line is looked at only as far as shows that it is too long. What follows the
+-- last LF is no line.
 pub record HasGood (text : List ℕ) (good : List Good) : Type 0 where
   pub lines : List (List ℕ)
   pub rest : List ℕ
@@ -44,13 +44,13 @@ with_room pending = if pending == most_pending then 0 else pending
 abbrev pub room_events : (rank pending : ℕ) → List Event
 room_events rank pending = if pending == most_pending then Spills rank ∷ [] else []
 
--- A line at the peer of this rank, if so many notes pend and the source that is open has this mark: above the mark
--- it makes a note, for which there is room then.
+-- A line at the peer of this rank, if this many notes pend and the open source has this mark: a line above the mark
+-- makes a note, for which there is room by then.
 abbrev pub good_events : (rank pending mark : ℕ) → Good → List Event
 good_events rank pending mark line =
     (if nat_lt mark line.0 then room_events rank pending else []) ++ Imports rank line.0 line.1.0 line.1.1 ∷ []
 
--- the mark behind it, and how many notes pend then
+-- the mark after it, and how many notes pend then
 abbrev pub mark_behind : (mark : ℕ) → Good → ℕ
 mark_behind mark line = if nat_lt mark line.0 then line.0 else mark
 
@@ -72,7 +72,7 @@ abbrev pub count_new : ℕ → List Good → ℕ
 count_new mark [] = 0
 count_new mark (line ∷ lines) = (if nat_lt mark line.0 then 1 else 0) + count_new (mark_behind mark line) lines
 
--- a text at the peer of this name: the peer, the good lines, and the events that they are
+-- the import of a text at the peer of this name: the peer, the good lines, and the events
 pub record IsImport (name text : List ℕ) (past : Past) (events : List Event) : Type 0 where
   pub rank : ℕ
   pub peer : PeerPast

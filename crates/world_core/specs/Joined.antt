@@ -1,4 +1,4 @@
--- Stations and connections that stand for a world that runs, and what the steps on connections make of them.
+-- Stations and connections that stand for a running world, and what the steps on connections make of them.
 use Rattle.std.specs.Prelude.{◌≡◌, ℕ, true, Option, None, Some, List, slice_get}
 use Rattle.std.specs.List.{AllZip}
 use Rattle.disk_model.specs.declared.Disk.{Ghosts}
@@ -13,22 +13,22 @@ use Rattle.world_core.specs.declared.fault.Fault.{Fault}
 use Rattle.world_core.specs.declared.stations.Stations.{Stations}
 use Rattle.world_core.specs.declared.output.Output.{Output}
 
--- a step on the connection of this number is refused so
+-- a step on the connection of this number is refused
 abbrev pub RefusesAct : ℕ → (Life → ConnPast → PeerPast → Fault → Life → Type 0) → Life → Fault → Life → Type 0
 RefusesAct id R life fault later = RefusesOn id life (R life) fault later
 
--- the connection of this number stands there, and its peer; or there is none
+-- the connection of this number is at this index, with its peer; or there is none
 abbrev pub FoundConn : Life → ℕ → Option (ℕ × ℕ) → Type 0
 FoundConn life id None = conn_at life.conns id ≡ None
 FoundConn life id (Some at) =
     (conn : ConnPast) × (peer : PeerPast) × (slice_get life.conns at.0 ≡ Some (id, conn)) × (conn.rank ≡ at.1)
     × (slice_get life.past.peers at.1 ≡ Some peer)
 
--- so many connections were told the moment
+-- the moment was set of this many connections
 abbrev pub TicksSome : ℕ → Life → List Said → Life → Type 0
 TicksSome count life outputs later = TicksEach life count outputs later
 
--- the connection that stands there was
+-- the moment was set of the connection at this index
 pub record TicksOne (index : ℕ) (life : Life) (outputs : List Said) (later : Life) : Type 0 where
   pub id : ℕ
   pub conn : ConnPast
@@ -37,7 +37,7 @@ pub record TicksOne (index : ℕ) (life : Life) (outputs : List Said) (later : L
   pub here : slice_get life.past.peers conn.rank ≡ Some peer
   pub follows : Follows id conn.transcript (ticked life.now peer conn) life outputs later
 
--- what follows of that was refused
+-- what follows of it was refused
 pub record TicksOneNot (index : ℕ) (life : Life) (fault : Fault) (later : Life) : Type 0 where
   pub id : ℕ
   pub conn : ConnPast
@@ -46,7 +46,7 @@ pub record TicksOneNot (index : ℕ) (life : Life) (fault : Fault) (later : Life
   pub here : slice_get life.past.peers conn.rank ≡ Some peer
   pub follows : FollowsNot id (ticked life.now peer conn) life fault later
 
--- so many were, and what follows was refused of the next
+-- the moment was set of this many, and what follows was refused for the next
 pub record TicksNot (life : Life) (fault : Fault) (later : Life) : Type 0 where
   pub count : ℕ
   pub outputs : List Said
@@ -55,14 +55,14 @@ pub record TicksNot (life : Life) (fault : Fault) (later : Life) : Type 0 where
   pub fails : TicksOneNot count mid fault later
 
 module _ {D : Type 0} {g : Ghosts D} where
-  -- they stand for a world that runs
+  -- they stand for a running world
   pub record AreRunning (life : Life) (stations : Stations D g) (connections : List Connection) : Type 0 where
     pub running : life.running ≡ true
     pub stands : Stands stations life.past
     pub conns : AllZip (ConnectionStands life.past.peers) life.conns connections
     pub tied : AreTied life
 
-  -- a step makes this of the world, of whose connections this is the last number, and tells this
+  -- a step makes this of the world, whose last connection has this number, and reports this
   pub record MadeOn (T : Life → List Said → Life → Type 0) (connected : ℕ) (life : Life) (before outputs : List Output)
       (stations : Stations D g) (connections : List Connection) : Type 0 where
     pub later : Life
@@ -74,7 +74,7 @@ module _ {D : Type 0} {g : Ghosts D} where
     pub connected_is : later.connected ≡ connected
     pub now : later.now ≡ life.now
 
-  -- a step is refused so
+  -- a step is refused
   pub record RefusedOn (R : Life → Fault → Life → Type 0) (life : Life) (fault : Fault) (stations : Stations D g)
       (connections : List Connection) : Type 0 where
     pub later : Life

@@ -4,10 +4,10 @@ use Rattle.std.specs.List.{AllZip}
 use Rattle.world_core.specs.Laws.{StaysAcknowledged}
 use Rattle.world_core.specs.Past.{Past, PeerPast}
 
--- a peer has its settings still, and what of its notes was acknowledged is so still
+-- a peer has the same settings, and its acknowledged notes are still acknowledged
 abbrev pub PeerStays : PeerPast → PeerPast → Type 0
 PeerStays was now = (now.conf ≡ was.conf) × StaysAcknowledged was.tape now.tape
 
--- each peer has
+-- the same of each peer
 abbrev pub PeersStay : Past → Past → Type 0
 PeersStay was now = AllZip PeerStays was.peers now.peers

@@ -23,9 +23,9 @@ use Rattle.world_core.specs.declared.fault.Fault.{Fault}
 use Rattle.world_core.specs.declared.step.Step.{Step}
 use Rattle.world_core.specs.declared.step.Step.TheVariants.{Hand}
 
--- What comes of a world by these steps, one after another: each is taken, and tells this, or is refused, and tells
--- nothing. A run ends at the first that is refused, and another may go on from there. Before and after each step the
--- world is sound, and whatever a stop leaves is safe.
+-- What comes of a world by these steps, one after another: each is taken, and reports this, or is refused, and reports
+-- nothing. A run ends at the first that is refused, and another run may go on from there. Before and after each step
+-- the world is sound, and whatever a stop leaves is safe.
 pub data Comes (begun : Life) : List Step → List (List Said) → Life → Type 0 where
   No_step : IsSafe begun.past → IsSoundLife begun → Comes begun [] [] begun
   Step_taken : (steps : List Step) (step : Step) (lines : List (List Said)) (outputs : List Said) (life later : Life)
@@ -37,14 +37,14 @@ pub data Comes (begun : Life) : List Step → List (List Said) → Life → Type
       → RefusesStep step life fault later → IsSafe later.past → IsSoundLife later
       → Comes begun (steps ++ step ∷ []) lines later
 
--- what holds of any two worlds of which the one comes of the other by steps
+-- this relation holds of any two worlds of which steps make the second from the first
 abbrev pub OverRuns : (Life → Life → Type 0) → Type 0
 OverRuns R = (begun later : Life) (steps : List Step) (lines : List (List Said)) → Comes begun steps lines later
     → R begun later
 
 -- ---- what was acknowledged stays acknowledged
 
--- the notes that were acknowledged are the first of those that are now
+-- the notes that were acknowledged are a prefix of those that are now
 pub record StaysAcknowledged (was now : TapePast) : Type 0 where
   pub base : now.history.base ≡ was.history.base
   pub more : List Note
@@ -56,7 +56,7 @@ pub record AllStayAcknowledged (begun later : Life) : Type 0 where
 
 -- ---- each final answer is right
 
--- A world that steps pass: the first of them made this world, and the others went on from it.
+-- A world between the steps: some of them, from the first on, made it, and the others went on from it.
 pub record Passes (begun : Life) (steps : List Step) (lines : List (List Said)) (later life : Life) : Type 0 where
   pub first : List Step
   pub others : List Step
@@ -67,28 +67,28 @@ pub record Passes (begun : Life) (steps : List Step) (lines : List (List Said)) 
   pub made : Comes begun first first_lines life
   pub went_on : Comes life others other_lines later
 
--- In this world the connection of this number, which is to the peer at this rank, has come to this verdict, and it is
--- right: of the replies that came one is the final answer to a command about that very debt (RFC 3977, section 3.2;
--- RFC 4644, section 2).
+-- In this world the connection of this number, to the peer at this rank, has come to this verdict, and the verdict is
+-- right: one of the replies that came is the final answer to a command about that very debt (RFC 3977, section 3.2; RFC
+-- 4644, section 2).
 pub record Rules (life : Life) (rank id : ℕ) (verdict : Verdict) : Type 0 where
-  -- the connection, with the transcript that has been made of it, and its peer
+  -- the connection, with its transcript, and its peer
   pub conn : ConnPast
   pub peer : PeerPast
   pub is : IsConn id life conn peer
   pub its : conn.rank ≡ rank
   -- the transcript can have come about, by that peer's settings
   pub arises : Arises (options_of peer.conf) conn.transcript
-  -- of what came out of it the verdict is one
+  -- the verdict is one of those that came out of it
   pub end : End
   pub among : Contains (ends (options_of peer.conf) conn.transcript) end
   pub is_final : end.outcome ≡ FinalOutcome verdict
   -- on the debt, by its number, token and id, that was accepted at its ticket
   pub own : slice_get (accepted conn.transcript) end.ticket ≡ Some verdict.debt
-  -- and it says what was answered of it
+  -- and it is right by the transcript
   pub right : IsRightAt (options_of peer.conf) conn.transcript end.ticket end.outcome
 
--- One of the steps, a `hand`, handed the debt to the connection of this number: in the world before it, the peer at
--- this rank owed it, under this number, token and id, as the least that might be claimed.
+-- One of the steps, a `hand`, handed the debt to the connection of this number: in the world before that step, the peer
+-- at this rank owed it, under this number, token and id, as the least that might be claimed.
 pub record WasTaken (begun : Life) (steps : List Step) (lines : List (List Said)) (later : Life) (rank id : ℕ)
     (debt : Owing) : Type 0 where
   pub life : Life
@@ -101,7 +101,7 @@ pub record WasTaken (begun : Life) (steps : List Step) (lines : List (List Said)
   pub its : conn.rank ≡ rank
   pub candidate : IsCandidate life.now peer debt
 
--- or that connection had accepted it before them
+-- or that connection had accepted it before the steps
 pub record WasAccepted (begun : Life) (rank id : ℕ) (debt : Owing) : Type 0 where
   pub conn : ConnPast
   pub is : conn_at begun.conns id ≡ Some conn
@@ -109,10 +109,10 @@ pub record WasAccepted (begun : Life) (rank id : ℕ) (debt : Owing) : Type 0 wh
   pub ticket : ℕ
   pub accepts : slice_get (accepted conn.transcript) ticket ≡ Some debt
 
--- A verdict of this code on the peer's debt of this number, to which a connection has come.
+-- A connection has come to a verdict of this code on the peer's debt of this number.
 pub record HasVerdict (begun : Life) (steps : List Step) (lines : List (List Said)) (later : Life)
     (rank number : ℕ) (code : FinalCode) : Type 0 where
-  -- a world that the steps pass, and in it the connection, by its number, that has come to the verdict
+  -- a world between the steps, and in it the connection, by its number, that has come to the verdict
   pub life : Life
   pub passes : Passes begun steps lines later life
   pub id : ℕ
@@ -138,12 +138,12 @@ AllFinalsAreRight = (begun later : Life) (steps : List Step) (lines : List (List
 
 -- ---- the headline
 
--- a debt ends by the peer's final answer, or a noted drop
+-- the peer's notes have a final answer to the debt, or a drop of it
 abbrev pub HasEnded : PeerPast → ℕ → Type 0
 HasEnded peer number = (note : Note) × Contains peer.tape.history.notes note × IsEnd note number
 
--- A debt that was acknowledged, or that the history began from, is owed after the first of the notes, however many of
--- those that pend are among them, unless the peer has a final answer or a noted drop of it.
+-- A debt that was acknowledged, or that the history began from, is owed after any prefix of the notes that has every
+-- acknowledged one in it, unless the peer's notes have a final answer to it or a drop of it.
 pub record StillOwes (was now : PeerPast) : Type 0 where
   pub owed : (index number : ℕ) (token id : List ℕ)
       → slice_get was.tape.history.notes index ≡ Some (Owe number token id)
@@ -153,8 +153,8 @@ pub record StillOwes (was now : PeerPast) : Type 0 where
       → (state : State) → IsPrefix now.tape.history state
       → Contains state.debts (number, (token, id)) ⊎ HasEnded now number
 
--- Whatever a stop may leave of the peer's tape is a tape, that of the first of its notes, every acknowledged one among
--- them; and there each debt that was acknowledged is owed still, or has ended.
+-- Whatever a stop may leave of the peer's tape is the tape of a prefix of its notes, with every acknowledged one in it;
+-- and each debt that was acknowledged is still owed there, or has ended.
 pub record IsRecovered (was now : PeerPast) : Type 0 where
   pub prefix : EachLedger (IsPrefix now.tape.history) now.tape.log
   pub owes : StillOwes was now
@@ -162,7 +162,7 @@ pub record IsRecovered (was now : PeerPast) : Type 0 where
 abbrev pub AllAreRecovered : Life → Life → Type 0
 AllAreRecovered begun later = AllZip IsRecovered begun.past.peers later.past.peers
 
--- A line is acknowledged as soon as a stop may leave the intake's tape with a mark at or above its number; then the
+-- A line is acknowledged as soon as a stop may leave the intake's tape with a mark at or above its number. Then the
 -- note that it made at a peer is acknowledged there.
 pub record IsAcknowledgedLine (past : Past) (number : ℕ) : Type 0 where
   pub seen : State

@@ -1,5 +1,5 @@
--- What becomes of a line's debts, in an administrator's words: those of an acknowledged line, and of one that is read
--- again.
+-- What becomes of a line's debts, in an administrator's words: those of an acknowledged line, and those of a line that
+-- is read again.
 use Rattle.std.specs.Prelude.{◌≡◌, ◌⊎◌, ◌+◌, ◌&&◌, ℕ, Bool, if◌then◌else◌, Some, List, [], ◌∷◌, map, nat_lt, slice_get}
 use Rattle.std.specs.Prelude.{Contains}
 use Rattle.std.specs.Global.{Vec}
@@ -22,24 +22,24 @@ use Rattle.world_core.specs.declared.step.Step.TheVariants.{Line}
 
 -- ---- an acknowledged line
 
--- In this world a line of this number is acknowledged, and it made a note of this debt at the peer of this rank.
+-- In this world the line of this number is acknowledged, and it made a note of this debt at the peer of this rank.
 pub record MadeDebt (past : Past) (rank number : ℕ) (token id : List ℕ) : Type 0 where
   pub line : IsAcknowledgedLine past number
   pub peer : PeerPast
   pub here : slice_get past.peers rank ≡ Some peer
   pub noted : Contains peer.tape.history.notes (Owe number token id)
 
--- the debt is owed in this ledger, or the peer has a final answer or a noted drop of it
+-- the debt is owed in this ledger, or the peer's notes have a final answer to it or a drop of it
 abbrev pub OwesOrEnded : PeerPast → ℕ → List ℕ → List ℕ → State → Type 0
 OwesOrEnded peer number token id state = Contains state.debts (number, (token, id)) ⊎ HasEnded peer number
 
--- so it is in the ledger of whatever a stop may leave of that peer's tape
+-- the same holds in the ledger of whatever a stop may leave of that peer's tape
 abbrev pub LinesAreKept : Life → Life → Type 0
 LinesAreKept begun later = (rank number : ℕ) (token id : List ℕ) (now : PeerPast)
     → MadeDebt begun.past rank number token id → slice_get later.past.peers rank ≡ Some now
     → EachLedger (OwesOrEnded now number token id) now.tape.log
 
--- and so at each moment within a step
+-- and at each moment within a step
 abbrev pub LinesAreKeptWithin : Type 0
 LinesAreKeptWithin = (begun life : Life) (steps : List Step) (lines : List (List Said)) → Comes begun steps lines life
     → (step : Step) (was now : Past) → IsUnderWay step life was now
@@ -53,7 +53,7 @@ LinesAreKeptWithin = (begun life : Life) (steps : List Step) (lines : List (List
 abbrev pub is_new_to : ℕ → List (List ℕ) → PeerPast → Bool
 is_new_to number named peer = is_named named peer && nat_lt (mark_at peer.tape) number
 
--- the names of the peers to which it is
+-- the names of the peers to which a line is new
 abbrev pub new_to : ℕ → List (List ℕ) → List PeerPast → List (List ℕ)
 new_to number named [] = []
 new_to number named (peer ∷ peers) =
@@ -65,7 +65,7 @@ reported_new [] = []
 reported_new ((name, New) ∷ outputs) = name ∷ reported_new outputs
 reported_new ((name, Already) ∷ outputs) = reported_new outputs
 
--- what it makes of a peer: a note more and a debt that is ready, or nothing
+-- what such a line makes of a peer: one note more and a debt that is ready, or nothing
 abbrev pub read_at : ℕ → List ℕ → List ℕ → List (List ℕ) → PeerPast → PeerPast
 read_at number token id named peer =
     if is_new_to number named peer then owing_as New number token id peer else peer
@@ -77,8 +77,8 @@ read_by number token id named past = record past {
   last = number;
 }
 
--- A good line was read under this number: `new` is reported of exactly those peers that it names whose mark is below
--- the number, each of which owes it now, and nothing changes at the others.
+-- A good line was read under this number: `new` is reported at exactly those peers that it names whose mark is below
+-- the number; each of them owes it now, and nothing changes at the others.
 pub record WasRead (number : ℕ) (text : List ℕ) (life : Life) (outputs : List Said) (later : Life) : Type 0 where
   pub token : List ℕ
   pub id : List ℕ
@@ -89,7 +89,7 @@ pub record WasRead (number : ℕ) (text : List ℕ) (life : Life) (outputs : Lis
   pub new : reported_new answers ≡ new_to number named life.past.peers
   pub changed : later ≡ with_past life (read_by number token id named life.past)
 
--- A line that is not good changes nothing at any peer.
+-- A malformed line changes nothing at any peer.
 pub record WasBad (number : ℕ) (life : Life) (outputs : List Said) (later : Life) : Type 0 where
   pub fault : LineFault
   pub tells : outputs ≡ Bad number fault ∷ []

@@ -1,4 +1,4 @@
--- What steps tell, as the lines of the script's format (docs/FORMATS.md), each with its LF.
+-- What steps report, as the lines of the script's format (docs/FORMATS.md), each with its LF.
 use Rattle.std.specs.Prelude.{ℕ, List, [], ◌∷◌, ◌++◌, codes, decimal, flat_map}
 use Rattle.funnel.specs.Faults.{line_fault_name}
 use Rattle.ledger_core.specs.Codes.{cause_name, code_number}
@@ -45,12 +45,12 @@ reason_text Timeout = codes "Timeout"
 reason_text Broken = codes "Broken"
 reason_text Quit = codes "Quit"
 
--- keys, each behind a space, or a line where there are none
+-- a space and each key, or ` -` if there is none
 abbrev pub keys_text : List ℕ → List ℕ
 keys_text [] = codes " -"
 keys_text (key ∷ rest) = flat_map (λ (k : ℕ). 32 ∷ key_text k) (key ∷ rest)
 
--- what is reported, without its LF; a connection is reported as c and its number
+-- what is reported, without its LF; a connection is written as `c` and its number
 abbrev pub output_text : Said → List ℕ
 output_text (Owed number peers) = decimal number ++ flat_map owed_text peers
 output_text (Bad number fault) = decimal number ++ codes " bad " ++ line_fault_name fault

@@ -1,4 +1,4 @@
--- Worlds as they are made.
+-- How a world is made.
 use Rattle.std.specs.Prelude.{◌≡◌, ◌⊎◌, List, [], map}
 use Rattle.std.specs.List.Sorted.{IsPermutation}
 use Rattle.feed_conf.specs.declared.conf.PeerConf.{PeerConf}
@@ -20,7 +20,7 @@ pub record Begins (peers : List PeerConf) (world : World) : Type 0 where
   pub fresh : IsFresh confs life
   pub stands : WorldStands world life
 
--- none was: a disk in memory was refused it, or there was none else
+-- no world was made: memory was refused, to a disk in memory or elsewhere
 abbrev pub IsMakeFault : Fault → Type 0
 IsMakeFault fault = (fault ≡ Tape Disk) ⊎ (fault ≡ NoMemory)
 

@@ -15,15 +15,15 @@ use Rattle.world_core.specs.declared.fault.Fault.{Fault}
 use Rattle.world_core.specs.declared.step.Step.{Step}
 use Rattle.world_core.specs.declared.step.Step.TheVariants.{Rotate}
 
--- the events of a step that calls disks, and the tapes at which they begin; a rotation may answer any generation
+-- the events of a step that calls disks, and the tapes at which they begin; a rotation may end in any generation
 abbrev pub MayMake : Step → Life → Past → List Event → Type 0
 MayMake (Rotate name) life begun events =
     (life.running ≡ true) × (begun ≡ life.past)
     × ((rank generation : ℕ) × (rank_of life.past name ≡ Some rank) × (events ≡ Rotates rank generation ∷ []))
 MayMake step life begun events = CallsDisks step life begun events
 
--- A step of this world is under way: so many of its events were taken, from the first on, and left all tapes as the
--- first of these are; the next makes the second of them, whether it is taken or refused.
+-- A step of this world is under way: some of its events were taken, from the first on, and left the first of these
+-- tapes; the next event makes the second of these tapes, whether it is taken or refused.
 pub record IsUnderWay (step : Step) (life : Life) (was now : Past) : Type 0 where
   pub begun : Past
   pub events : List Event
@@ -34,18 +34,18 @@ pub record IsUnderWay (step : Step) (life : Life) (was now : Past) : Type 0 wher
   pub here : slice_get events count ≡ Some event
   pub makes : Does event was now ⊎ ((fault : Fault) × Refuses event was fault now)
 
--- At each moment from the first of these to the second, whatever a stop may leave of a peer's tape is a tape, that of
--- the first of the notes that it had before, every acknowledged one among them.
+-- At each moment from the first to the second of these, whatever a stop may leave of a peer's tape is the tape of a
+-- prefix of the notes that it had before, with every acknowledged one in it.
 abbrev pub StaysPrefix : PeerPast → PeerPast → Type 0
 StaysPrefix old new = LedgersLeave (IsPrefix old.tape.history) old.tape.log new.tape.log
 
--- so it is of the intake's tape; and each note that a line up to its mark made is acknowledged at its peer
+-- the same of the intake's tape; and each note that a line up to its mark made is acknowledged at its peer
 abbrev pub StaysBelow : Past → Past → Type 0
 StaysBelow was now =
     LedgersLeave (KeepsLines was.intake.history was.peers) was.intake.log now.intake.log
 
--- So it is of every tape while an event makes these tapes of those; and there each debt that was acknowledged in the
--- world that was begun with is owed still, or has ended.
+-- The same of every tape while an event makes the second of these tapes from the first; and each debt that was
+-- acknowledged in the world at the beginning is still owed there, or has ended.
 pub record AreRecoveredWithin (begun was now : Past) : Type 0 where
   pub prefixes : AllZip StaysPrefix was.peers now.peers
   pub owes : AllZip StillOwes begun.peers was.peers
@@ -57,7 +57,7 @@ AllMomentsAreRecovered = (begun life : Life) (steps : List Step) (lines : List (
     → (step : Step) (was now : Past) → IsUnderWay step life was now
     → AreRecoveredWithin begun.past was now
 
--- ---- no disk is called but at these events
+-- ---- only these events call a disk
 
 -- the step was taken, or refused
 abbrev pub Ended : Step → Life → Life → Type 0

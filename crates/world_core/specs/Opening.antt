@@ -17,7 +17,7 @@ use Rattle.world_core.specs.declared.peer.StoppedPeer.{StoppedPeer}
 use Rattle.world_core.specs.declared.stations.Stations.{Stations}
 use Rattle.world_core.specs.declared.stop.StopDisk.{StopDisk}
 
--- these peers in the place of all
+-- all tapes, with these peers in place of the others
 abbrev pub with_peers : Past → List PeerPast → Past
 with_peers past peers = record past { peers = peers }
 
@@ -25,7 +25,7 @@ with_peers past peers = record past { peers = peers }
 abbrev pub HasNoneHeld : PeerPast → Type 0
 HasNoneHeld peer = (id number : ℕ) → IsHeldBy peer.places id number → ⊥
 
--- of these events some were taken, and the next was refused, at the tape of the halt and for its fault
+-- some of these events were taken, and the next was refused, at the tape of the halt and for its fault
 pub record FailsAt (begun : Past) (events : List Event) (halt : Halt) (later : Past) : Type 0 where
   pub fails : Fails begun events halt.fault later
   pub at : calls_disk fails.event ≡ Some halt.rank
@@ -37,8 +37,8 @@ pub record OpensNot (past : Past) (halt : Halt) (stopped : List StoppedPeer) (di
   pub fails : FailsAt past (restart_events past) halt under_way
   pub stop : TapesStop (left AtRest under_way) stopped disks
 
--- One of the peers was refused: those before it that were opened have stopped again, and it stands first of those
--- behind, of which these are left.
+-- One of the peers was refused: those before it, which were opened, have stopped again, and it is the first of those
+-- that are left.
 pub record HasHalted (past : Past) (halt : Halt) (stopped rest : List StoppedPeer) : Type 0 where
   pub under_way : Past
   pub prefix : List PeerPast
@@ -58,7 +58,7 @@ module _ {D : Type 0} {g : Ghosts D} where
     pub stands : Stands stations later
     pub free : AllByRecursion HasNoneHeld later.peers
 
-  -- so many peers were opened, and these are left
+  -- this many peers were opened, and these are left
   pub record HasOpened (past : Past) (opened : List (Peer D g)) (rest : List StoppedPeer) : Type 0 where
     pub prefix : List PeerPast
     pub behind : List PeerPast
@@ -74,7 +74,7 @@ module _ {D : Type 0} {g : Ghosts D} where
   HasTried past opened stopped None rest = (stopped ≡ []) × HasOpened past opened rest
   HasTried past opened stopped (Some halt) rest = HasHalted past halt stopped rest
 
--- there is room for so many more, wherever they go
+-- there is room for this many more, wherever they go
 abbrev pub HasRoomIn : ℕ → Option Halt → (opened stopped room all : ℕ) → Type 0
 HasRoomIn more None opened stopped room all = (opened + more ≤ room) × (opened + more ≤ all) × (stopped ≡ 0)
 HasRoomIn more (Some halt) opened stopped room all = stopped + more ≤ all

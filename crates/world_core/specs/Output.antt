@@ -1,4 +1,4 @@
--- What steps tell, as values; docs/FORMATS.md has the line of each.
+-- What steps report, as values; docs/FORMATS.md has the line of each.
 use Rattle.std.specs.Prelude.{◌==◌, ℕ, if◌then◌else◌, Option, None, Some, List, [], ◌∷◌, ◌++◌, map}
 use Rattle.std.specs.Global.{Vec}
 use Rattle.funnel.specs.Line.{without_cr}
@@ -21,25 +21,25 @@ use Rattle.world_core.specs.declared.output.Output.TheVariants.{Rotated as Outpu
 use Rattle.world_core.specs.declared.output.Output.TheVariants.{Stopped as OutputStopped}
 use Rattle.world_core.specs.declared.output.Output.TheVariants.{Mark as OutputMark}
 
--- One thing that a step tells.
+-- One thing that a step reports.
 pub data Said : Type 0 where
   -- a good line, and what came of it at each peer that it names
   Owed : (number : ℕ) (peers : List (List ℕ × Answer)) → Said
-  Bad : (number : ℕ) (fault : LineFault) → Said  -- a line that is not good
+  Bad : (number : ℕ) (fault : LineFault) → Said  -- a malformed line
   Taken : (mark : ℕ) → Said  -- the lines up to this one are acknowledged
   Connected : (connection : ℕ) (name : List ℕ) → Said  -- a connection was made
-  Handed : (connection : ℕ) (handed : Handing) → Said  -- what came of the least candidate
-  Settled : (connection key : ℕ) (settled : Settling) → Said  -- what came of the debt of this key, which it had
+  Handed : (connection : ℕ) (handed : Handing) → Said  -- what became of the least candidate
+  Settled : (connection key : ℕ) (settled : Settling) → Said  -- what became of the debt of this key, which it had
   SentLine : (connection : ℕ) (line : List ℕ) → Said  -- a line went out
   Need : (connection : ℕ) (key : ℕ) → Said  -- an article is wanted
   Closed : (connection : ℕ) (reason : Reason) → Said  -- a connection closed
-  Shed : (name : List ℕ) (keys : List ℕ) → Said  -- what of a peer's backlog was dropped
-  Rotated : (name : List ℕ) (generation : ℕ) → Said  -- what a peer is owed was written anew
-  Imported : (name : List ℕ) (source new : ℕ) → Said  -- a backlog file was taken in
+  Shed : (name : List ℕ) (keys : List ℕ) → Said  -- what was dropped of a peer's backlog
+  Rotated : (name : List ℕ) (generation : ℕ) → Said  -- a peer's tape was rewritten
+  Imported : (name : List ℕ) (source new : ℕ) → Said  -- a backlog file was imported
   Stopped : Said  -- all has stopped
   Mark : (name : List ℕ) (mark : ℕ) (owes : List ℕ) → Said  -- a peer's tape was opened
 
--- the value that is reported
+-- what a value of the program reports
 abbrev pub said_of : Output → Said
 said_of (OutputOwed number peers) = Owed number (map (λ (at : OwedAt). (at.name, at.owed)) peers.items)
 said_of (OutputBad number fault) = Bad number fault
@@ -56,13 +56,13 @@ said_of (OutputImported name source new) = Imported name source new
 said_of OutputStopped = Stopped
 said_of (OutputMark name mark owes) = Mark name mark owes.items
 
--- what each step tells
+-- what each step reports
 abbrev pub said_by : List (Vec Output) → List (List Said)
 said_by lines = map (λ (outputs : Vec Output). map said_of outputs.items) lines
 
--- ---- what is reported of output, of a peer
+-- ---- what is reported of an output, and of a peer
 
--- Each line up to an LF, without the one CR before it. What stands behind the last LF is no line.
+-- Each line up to an LF, without the one CR before it. What follows the last LF is no line.
 abbrev pub lines_from : List ℕ → List ℕ → List (List ℕ)
 lines_from line [] = []
 lines_from line (octet ∷ rest) =
@@ -76,7 +76,7 @@ abbrev pub need_said : ℕ → Option ℕ → List Said
 need_said id None = []
 need_said id (Some key) = Need id key ∷ []
 
--- why a connection closed, where it was open before
+-- why a connection closed, if it was open before
 abbrev pub closed_said : ℕ → (was now : Option Reason) → List Said
 closed_said id None None = []
 closed_said id None (Some reason) = Closed id reason ∷ []

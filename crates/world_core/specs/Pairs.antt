@@ -1,4 +1,4 @@
--- A connection and its peer: what the steps on connections (specs/Exchange.antt) make of these two alone.
+-- A connection and its peer: what the steps on connections (specs/Exchange.antt) make of these two.
 use Rattle.std.specs.Prelude.{◌≡◌, ◌⊎◌, ◌↔◌, ◌==◌, ℕ, Bool, true, false, None, Some, option_to_list, List, [], ◌∷◌}
 use Rattle.std.specs.Prelude.{◌++◌, ◌+◌, map, slice_get, Contains, Option}
 use Rattle.std.specs.List.{IsDistinct}
@@ -41,7 +41,7 @@ pub record SettlesAt (id now : ℕ) (outcome : Outcome) (peer later : PeerPast) 
   pub room : IsEnded (settling peer now outcome) → HasRoom peer.tape
   pub changed : later ≡ settled now outcome peer
 
--- these outcomes do, one after another
+-- these outcomes go to the peer, one after another
 pub data AllSettleAt (id now : ℕ) (begun : PeerPast) : List Outcome → PeerPast → Type 0 where
   Start : AllSettleAt id now begun [] begun
   Next : (outcomes : List Outcome) (outcome : Outcome) (peer later : PeerPast) → AllSettleAt id now begun outcomes peer
@@ -51,7 +51,7 @@ pub data AllSettleAt (id now : ℕ) (begun : PeerPast) : List Outcome → PeerPa
 abbrev pub settled_said : ℕ → ℕ → PeerPast → Outcome → Said
 settled_said id now peer outcome = Settled id (key_in outcome) (settling peer now outcome)
 
--- The numbers that the connection holds at its peer are exactly those that it has, and it has none twice.
+-- The connection holds at its peer exactly the numbers that it has, and it has none twice.
 pub record IsTied (id : ℕ) (conn : ConnPast) (peer : PeerPast) : Type 0 where
   pub held : (number : ℕ) → IsHeldBy peer.places id number
       ↔ Contains (numbers_at (options_of peer.conf) conn) number
@@ -80,7 +80,7 @@ pub record GivesBackAt (id now : ℕ) (debt : Owing) (peer later : PeerPast) : T
   pub claims : ClaimsAt id now debt peer mid
   pub returns : ReturnsAt id debt.0 mid later
 
--- what became of the least candidate: then the connection has this transcript, and the peer is so
+-- what became of the least candidate: then the connection has this transcript, and the peer is this
 pub data HandsOverAt (id now : ℕ) (conn : ConnPast) (peer : PeerPast) : Handover → List Happening → PeerPast
     → Type 0 where
   None_at : (tape : TapePast) → peer.tape.broken ≡ false → least_candidate now peer.places ≡ None
@@ -105,22 +105,23 @@ FailsToOfferAt id now conn peer fault later =
 
 -- ---- a connection and its peer
 
--- what follows a step on the connection, whose transcript was this before it, is this, and is reported
+-- what follows a step on the connection, whose transcript was this before the step; what the peer is then; and what is
+-- reported
 pub record FollowsAt (id now : ℕ) (was : List Happening) (conn : ConnPast) (past : PeerPast) (said : List Said)
     (later_conn : ConnPast) (later : PeerPast) : Type 0 where
   pub settles : AllSettleAt id now past (unsettled (options_of past.conf) conn) later
   pub outputs_are : said ≡ exchange_said (limits_of past.conf) (options_of past.conf) id now was conn
   pub changed : later_conn ≡ followed_up (options_of past.conf) conn
 
--- Why no outcome of these goes to the peer any more, and what this makes of the connection: memory was refused; or the
--- first of them was, and waits.
+-- Why no further outcome of these goes to the peer, and what becomes of the connection: memory was refused; or the
+-- first of these outcomes was refused, and waits.
 abbrev pub StopsHere : (now : ℕ) → List Outcome → PeerPast → Fault → (conn later : ConnPast) → Type 0
 StopsHere now outcomes peer fault conn later =
     ((fault ≡ NoMemory) × (later ≡ conn))
     ⊎ ((outcome : Outcome) × (rest : List Outcome) × (outcomes ≡ outcome ∷ rest)
     × RefusesEnd (settling peer now outcome) peer.tape fault × (later ≡ waiting conn))
 
--- it was refused: the first outcomes went to the peer, and the others are left
+-- it was refused: a prefix of the outcomes went to the peer, and the others are left
 pub record FollowsNotAt (id now : ℕ) (conn : ConnPast) (past : PeerPast) (fault : Fault) (later_conn : ConnPast)
     (later : PeerPast) : Type 0 where
   pub done : List Outcome
@@ -129,7 +130,7 @@ pub record FollowsNotAt (id now : ℕ) (conn : ConnPast) (past : PeerPast) (faul
   pub settles : AllSettleAt id now past done later
   pub why : StopsHere now left later fault (all_out done conn) later_conn
 
--- memory was refused for what it tells; or nothing was handed over; or what follows was refused
+-- memory was refused for the report; or nothing was handed over; or what follows was refused
 abbrev pub FailsToHandAt : (id now : ℕ) → ConnPast → PeerPast → Fault → ConnPast → PeerPast → Type 0
 FailsToHandAt id now conn past fault later_conn later =
     ((fault ≡ NoMemory) × (later_conn ≡ conn) × (later ≡ past))
@@ -138,11 +139,11 @@ FailsToHandAt id now conn past fault later_conn later =
     × HandsOverAt id now conn past handed transcript mid
     × FollowsNotAt id now (with_transcript conn transcript) mid fault later_conn later)
 
--- the outcomes that a connection has still to give, with the one that waits
+-- the outcomes that a connection has still to give, the one that waits first
 abbrev pub left_at : Connection → List Outcome
 left_at connection = option_to_list connection.waiting ++ untold_at connection.conn
 
--- the next outcome was taken from it, or the one that waits; or there was none
+-- the outcome that waits, or the next, was taken from the connection; or there was none
 abbrev pub TakesNext : Options → ConnPast → Option Outcome → Connection → Type 0
 TakesNext options past None connection =
     (unsettled options past ≡ []) × (past.settled ≡ taken past.transcript)
@@ -152,7 +153,7 @@ TakesNext options past (Some outcome) connection =
     × (past.settled + 1 ≡ taken (out_to (past.settled + 1) past.transcript))
     × ConnStands options connection.conn past.unread (out_to (past.settled + 1) past.transcript)
 
--- more is reported
+-- these are added to what was reported
 abbrev pub Tells : List Output → List Said → List Output → Type 0
 Tells was said outputs = map said_of outputs ≡ map said_of was ++ said
 
@@ -191,14 +192,14 @@ module _ {D : Type 0} {g : Ghosts D} where
       outputs
   SettledNext false id now conn past was connection peer outputs = SettledNone id conn past was connection peer outputs
 
-  -- it was refused
+  -- the next outcome was refused
   pub record SettledNot (id now : ℕ) (conn : ConnPast) (past : PeerPast) (fault : Fault) (connection : Connection)
       (peer : Peer D g) : Type 0 where
     pub later_conn : ConnPast
     pub why : StopsHere now (unsettled (options_of past.conf) conn) past fault conn later_conn
     pub stand : PairStands id later_conn past connection peer
 
-  -- so many outcomes, from the first on, went to the peer and were reported
+  -- this many outcomes, from the first on, went to the peer and were reported
   pub record SettledSome (id now : ℕ) (conn : ConnPast) (past : PeerPast) (was : List Output) (done : List Outcome)
       (later : PeerPast)
       (connection : Connection) (peer : Peer D g) (outputs : List Output) : Type 0 where
@@ -208,7 +209,7 @@ module _ {D : Type 0} {g : Ghosts D} where
     pub outputs_are : Tells was (map (settled_said id now past) done) outputs
     pub stand : PairStands id (all_out done conn) later connection peer
 
-  -- all did, and none waits
+  -- all outcomes did, and none waits
   pub record SettledAll (id now : ℕ) (conn : ConnPast) (past : PeerPast) (was : List Output) (connection : Connection)
       (peer : Peer D g) (outputs : List Output) : Type 0 where
     pub later : PeerPast
@@ -224,7 +225,7 @@ module _ {D : Type 0} {g : Ghosts D} where
     pub outputs_are : Tells before said outputs
     pub stand : PairStands id later_conn later connection peer
 
-  -- it was refused
+  -- what follows was refused
   pub record FollowedNot (id now : ℕ) (conn : ConnPast) (past : PeerPast) (fault : Fault) (connection : Connection)
       (peer : Peer D g) : Type 0 where
     pub later_conn : ConnPast
@@ -247,7 +248,7 @@ module _ {D : Type 0} {g : Ghosts D} where
     pub why : FailsToOfferAt id now conn past fault later
     pub stand : PairStands id conn later connection peer
 
-  -- it was, and what follows has come about, and was reported
+  -- the debt was handed over, and what follows has come about, and was reported
   pub record HandedOn (id now : ℕ) (conn : ConnPast) (past : PeerPast) (before : List Output) (connection : Connection)
       (peer : Peer D g) (outputs : List Output) : Type 0 where
     pub handed : Handover
@@ -301,7 +302,7 @@ module _ {D : Type 0} {g : Ghosts D} where
         (with_transcript conn (after (options_of past.conf) conn.transcript (HandedIn number handing))) past before
         connection peer outputs
 
-  -- none is wanted; or memory is refused; or what follows was
+  -- no article is wanted; or memory is refused; or what follows was refused
   abbrev pub SuppliedNot : Found → (id now : ℕ) → ConnPast → PeerPast → Fault → Connection → Peer D g → Type 0
   SuppliedNot found id now conn past fault connection peer =
       ((fault ≡ NotNeeded) × (need (options_of past.conf) conn.transcript ≡ None)

@@ -29,7 +29,7 @@ pub record PeerPast : Type 0 where
   pub places : Places
   pub parted : Bool
 
--- All tapes: the peers' in byte order of their names, and the intake's; the number of the last line, and the number
+-- All tapes: the peers' in byte order of their names, and the intake's; the number of the last line; and the number
 -- that is kept to be sealed.
 pub record Past : Type 0 where
   pub peers : List PeerPast
@@ -37,22 +37,22 @@ pub record Past : Type 0 where
   pub last : ℕ
   pub begun : Option ℕ
 
--- A connection: the rank of its peer, the octets of a reply that it holds back, its transcript, the newest first, and
--- how many of its outcomes have gone to its peer.
+-- A connection: the rank of its peer, the octets of a reply that it holds back, its transcript, newest first, and how
+-- many of its outcomes have gone to its peer.
 pub record ConnPast : Type 0 where
   pub rank : ℕ
   pub unread : List ℕ
   pub transcript : List Happening
   pub settled : ℕ
 
--- A stop that is armed: at which tape, a peer's by its rank or the intake's, at which call, and what it leaves.
+-- A stop that is armed: at which tape (a peer's, by its rank, or the intake's), at which call, and what it leaves.
 pub record Armed : Type 0 where
   pub rank : Option ℕ
   pub call : ℕ
   pub choice : Choice
 
--- A world: all tapes, the connections by rising numbers, how many were ever made, the moment, the stop that is armed,
--- and whether it runs.
+-- A world: all tapes, the connections by rising numbers, how many were ever made, the moment, the armed stop, and
+-- whether it runs.
 pub record Life : Type 0 where
   pub past : Past
   pub conns : List (ℕ × ConnPast)
@@ -63,7 +63,7 @@ pub record Life : Type 0 where
 
 -- ---- what is looked up in it
 
--- the ledger that a tape's notes leave
+-- the ledger that a tape's notes make
 abbrev pub ledger_at : TapePast → State
 ledger_at tape = ledger_after tape.history
 
@@ -79,7 +79,7 @@ rank_of past name = position (λ (peer : PeerPast). bytes_eq peer.conf.name name
 abbrev pub conn_at : List (ℕ × ConnPast) → ℕ → Option ConnPast
 conn_at conns id = lookup (λ (other : ℕ). other == id) conns
 
--- how a connection to a peer of these settings works (innfeed.conf(5))
+-- how a connection to a peer of these settings behaves (innfeed.conf(5))
 abbrev pub options_of : PeerConf → Options
 options_of conf = record {
   streaming = conf.streaming;
@@ -90,7 +90,7 @@ options_of conf = record {
   response_timeout = conf.response_timeout;
 }
 
--- the limits of its backlog (innfeed.conf(5))
+-- the limits of a peer's backlog (innfeed.conf(5))
 abbrev pub limits_of : PeerConf → Limits
 limits_of conf = record {
   backlog_limit = conf.backlog_limit;
@@ -106,7 +106,7 @@ with_tape peer tape = record peer { tape = tape }
 abbrev pub with_places : PeerPast → Places → PeerPast
 with_places peer places = record peer { places = places }
 
--- of the peers the one at this rank becomes the new one
+-- the peer at this rank is replaced
 abbrev pub with_peer : Past → ℕ → PeerPast → Past
 with_peer past rank peer = record past { peers = slice_set past.peers rank peer }
 
@@ -119,7 +119,7 @@ with_last past number = record past { last = number }
 abbrev pub with_past : Life → Past → Life
 with_past life past = record life { past = past }
 
--- of the connections the one of this number becomes the new one
+-- the connection of this number is replaced
 abbrev pub with_conn : Life → ℕ → ConnPast → Life
 with_conn life id conn = record life {
   conns = map (λ (entry : ℕ × ConnPast). if entry.0 == id then (id, conn) else entry) life.conns;

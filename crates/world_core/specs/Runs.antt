@@ -1,4 +1,4 @@
--- What steps make of a world, tell, and are refused for (docs/FORMATS.md), and runs of them.
+-- What steps make of a world, what they report, and why they are refused (docs/FORMATS.md); and runs of steps.
 use Rattle.std.specs.Prelude.{◌≡◌, ◌⊎◌, ℕ, true, false, List, [], ◌∷◌, ◌++◌}
 use Rattle.world_core.specs.Past.{ConnPast, Life, Past, PeerPast, with_past}
 use Rattle.world_core.specs.Safe.{IsSafe}
@@ -28,7 +28,7 @@ OnTapes T life outputs later =
 abbrev pub OnWorld : (Life → List Said → Life → Type 0) → Life → List Said → Life → Type 0
 OnWorld T life outputs later = (life.running ≡ true) × T life outputs later
 
--- what a step makes of a world, and tells, where no stop is met
+-- what a step makes of a world, and reports, if no stop is met
 abbrev pub Does : Step → Life → List Said → Life → Type 0
 Does (Line text) life outputs later = OnTapes (TakesLine text.items) life outputs later
 Does Flush life outputs later = OnTapes TakesFlush life outputs later
@@ -47,13 +47,13 @@ Does (Import name text) life outputs later = OnTapes (TakesImport name text.item
 Does (Stop peer call choice) life outputs later = TakesStop peer call choice life outputs later
 Does Restart life outputs later = TakesRestart life outputs later
 
--- what a step makes of a world, and tells: what it does, or a stop that is met in it
+-- what a step makes of a world, and reports: its own, or that of a stop that is met in it
 abbrev pub Takes : Step → Life → List Said → Life → Type 0
 Takes step life outputs later = Does step life outputs later ⊎ Strikes step life outputs later
 
 -- ---- refusals
 
--- all has stopped, before anything else is looked at; or the world runs, and the step is refused so
+-- all has stopped, which is looked at first; or the world runs, and the step is refused
 abbrev pub RefusesWorld : (Life → Fault → Life → Type 0) → Life → Fault → Life → Type 0
 RefusesWorld R life fault later =
     ((fault ≡ Stopped) × (life.running ≡ false) × (later ≡ life)) ⊎ ((life.running ≡ true) × R life fault later)
@@ -69,7 +69,7 @@ abbrev pub RefusesConn : ℕ → (Life → ConnPast → PeerPast → Fault → L
 RefusesConn id R life fault later =
     RefusesWorld (λ (l : Life) (f : Fault) (m : Life). RefusesOn id l (R l) f m) life fault later
 
--- a step is refused for this fault, and leaves this, where no stop is met
+-- a step is refused for this fault, and leaves this, if no stop is met
 abbrev pub Refuses : Step → Life → Fault → Life → Type 0
 Refuses (Line text) life fault later = RefusesTapes (RefusesLine text.items) life fault later
 Refuses Flush life fault later = RefusesTapes RefusesFlushing life fault later
@@ -88,14 +88,15 @@ Refuses (Import name text) life fault later = RefusesTapes (RefusesImport name t
 Refuses (Stop peer call choice) life fault later = RefusesStop peer call life fault later
 Refuses Restart life fault later = RefusesRestart life fault later
 
--- a step is refused: for its own reason, or for want of memory where a stop is met in it
+-- a step is refused: for its own reason, or for want of memory if a stop is met in it
 abbrev pub RefusesStep : Step → Life → Fault → Life → Type 0
 RefusesStep step life fault later = Refuses step life fault later ⊎ StrikesUnreported step life fault later
 
 -- ---- runs
 
 -- These steps were taken, one after another, and this is what each reported. Before and after each step the world is
--- sound, and whatever a stop leaves is safe, as it is after each event in a step, and at each moment within an event.
+-- sound, and whatever a stop leaves is safe; it is also safe after each event in a step, and at each moment within an
+-- event.
 pub data Runs (begun : Life) : List Step → List (List Said) → Life → Type 0 where
   Start : IsSafe begun.past → IsSoundLife begun → Runs begun [] [] begun
   Next : (steps : List Step) (step : Step) (lines : List (List Said)) (outputs : List Said) (life later : Life)

@@ -1,4 +1,4 @@
--- What holds of all tapes at each moment, within calls too: whatever a stop leaves then.
+-- What holds of all tapes at each moment, also within calls: what any stop leaves then.
 use Rattle.std.specs.Prelude.{◌<◌, ℕ, List}
 use Rattle.std.specs.List.{AllByRecursion}
 use Rattle.ledger_core.specs.declared.note.Note.{Note}
@@ -16,21 +16,21 @@ IsAbove mark (Drop key cause) = Unit {0}
 IsAbove mark (Seen number) = Unit {0}
 IsAbove mark (Closed source) = Unit {0}
 
--- each note that a line up to this number made is acknowledged: none of those that pend is
+-- each note that a line up to this number made is acknowledged: no such note pends
 abbrev pub HasAcknowledged : ℕ → PeerPast → Type 0
 HasAcknowledged mark peer = AllByRecursion (IsAbove mark) (pending_notes peer.tape.history)
 
--- a peer's tape is that of the first of its notes, every acknowledged one among them
+-- a peer's tape is that of a prefix of its notes, with every acknowledged one in it
 abbrev pub KeepsNotes : PeerPast → State → Type 0
 KeepsNotes peer state = IsPrefix peer.tape.history state
 
--- The intake's tape is that of the first of its notes, every acknowledged one among them; and each note that a line
--- up to its mark made is acknowledged at its peer.
+-- The intake's tape is that of a prefix of its notes, with every acknowledged one in it; and each note that a line up
+-- to its mark made is acknowledged at its peer.
 pub record KeepsLines (intake : History) (peers : List PeerPast) (state : State) : Type 0 where
   pub prefix : IsPrefix intake state
   pub lines : AllByRecursion (HasAcknowledged state.mark) peers
 
--- so is whatever a stop leaves now of each tape
+-- the same of whatever a stop leaves now of each tape
 pub record IsSafe (past : Past) : Type 0 where
   pub peers : AllByRecursion (λ (peer : PeerPast). EachLedger (KeepsNotes peer) peer.tape.log) past.peers
   pub intake : EachLedger (KeepsLines past.intake.history past.peers) past.intake.log

@@ -1,4 +1,4 @@
--- What holds of each world that steps have made, stopped or not.
+-- What holds of each world that steps have made, stopped or running.
 use Rattle.std.specs.Prelude.{◌≡◌, ◌↔◌, ◌<◌, ◌≤◌, ◌==◌, ◌^◌, ◌++◌, ℕ, true, false, Some, List, [], ◌∷◌, map, slice_get}
 use Rattle.std.specs.Prelude.{Contains}
 use Rattle.std.specs.Cmp.Lexicographic.{slice_cmp}
@@ -18,11 +18,11 @@ use Rattle.world_core.specs.Exchange.{unsettled}
 
 -- ---- all tapes
 
--- in byte order, the one goes before the other
+-- in byte order, the first comes before the second
 abbrev pub IsBefore : List ℕ → List ℕ → Type 0
 IsBefore one other = slice_cmp nat_cmp one other ≡ Less
 
--- each name goes before all behind it
+-- each name comes before all that follow it
 abbrev pub NamesRise : List (List ℕ) → Type 0
 NamesRise [] = Unit {0}
 NamesRise (name ∷ names) = AllByRecursion (IsBefore name) names × NamesRise names
@@ -35,8 +35,8 @@ names_of peers = map (λ (peer : PeerPast). peer.conf.name) peers
 abbrev pub HasParted : ℕ → PeerPast → Type 0
 HasParted number peer = peer.parted ≡ true → HasAcknowledged number peer
 
--- The names rise, the marks and numbers are in order, and what the intake has noted, or is about to, is acknowledged
--- at the peers.
+-- The names rise; the marks and numbers are in order; and what the intake has noted, or is about to note, is
+-- acknowledged at the peers.
 pub record IsSound (past : Past) : Type 0 where
   pub names : NamesRise (names_of past.peers)
   pub fits : past.last < 2 ^ 64
@@ -47,7 +47,7 @@ pub record IsSound (past : Past) : Type 0 where
 
 -- ---- connections
 
--- the numbers that a connection has: those of outcomes that are still to go to its peer, and of the debts that it holds
+-- the numbers that a connection has: those of outcomes that have not gone to its peer yet, and of debts that it holds
 abbrev pub numbers_at : Options → ConnPast → List ℕ
 numbers_at options conn =
     map key_in (unsettled options conn) ++ map (λ (x : Held). x.debt.0) (held options conn.transcript)
@@ -59,16 +59,16 @@ pub record IsSoundConn (peers : List PeerPast) (conn : ConnPast) : Type 0 where
   pub arises : Arises (options_of peer.conf) conn.transcript
   pub once : IsDistinct (λ one other. one == other) (numbers_at (options_of peer.conf) conn)
 
--- a connection of this number to the peer at this rank has this number of a debt
+-- a connection of this number, to the peer at this rank, has this number of a debt
 pub record HasNumber (life : Life) (rank : ℕ) (peer : PeerPast) (id number : ℕ) : Type 0 where
   pub conn : ConnPast
   pub here : conn_at life.conns id ≡ Some conn
   pub its : conn.rank ≡ rank
   pub has : Contains (numbers_at (options_of peer.conf) conn) number
 
--- The connections rise by their numbers, of which none was not made; a number is held by a connection at its peer's
--- station exactly where the connection has it, so that no outcome is of a number that is not held; and a world that
--- has stopped has none.
+-- Connections rise by their numbers, which are all of connections that were made. A connection holds a number at its
+-- peer's station exactly if it has the number, so that no outcome has a number that is not held. A world that has
+-- stopped has no connections.
 pub record AreTied (life : Life) : Type 0 where
   pub rising : IsStrictlyIncreasing (map (λ (entry : ℕ × ConnPast). entry.0) life.conns)
   pub made : AllByRecursion (λ (entry : ℕ × ConnPast). entry.0 ≤ life.connected) life.conns

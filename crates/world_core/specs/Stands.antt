@@ -1,4 +1,4 @@
--- What it is that a world, and what it is made of, stands for what it has been through.
+-- When a world, and what it is made of, stands for what it has been through.
 use Rattle.std.specs.Prelude.{◌≡◌, ◌⊎◌, ◌+◌, ℕ, Bool, true, false, Option, None, Some, option_map, List, [], map}
 use Rattle.std.specs.Prelude.{take, slice_get}
 use Rattle.std.specs.List.{AllZip}
@@ -105,7 +105,7 @@ module _ {D : Type 0} {g : Ghosts D} where
     pub flushes : IsFlushed (KeepsNotes past) past.tape later
     pub stands : PeerStands (parted past later) peer
 
-  -- the same while a backlog file is taken in, which is no flush since a number was kept
+  -- the same during an import; this is not the flush since a number was kept
   pub record SpilledPeer (past : PeerPast) (peer : Peer D g) : Type 0 where
     pub later : TapePast
     pub flushes : IsFlushed (KeepsNotes past) past.tape later
@@ -170,7 +170,7 @@ module _ {D : Type 0} {g : Ghosts D} where
     pub owed_is : owed ≡ imported_as number peer
     pub did : DidOne past (Imports rank number token id) stations
 
-  -- the source that is open there is closed: this one
+  -- the open source is closed there: this one
   pub record ClosedOne (past : Past) (rank source : ℕ) (stations : Stations D g) : Type 0 where
     pub peer : PeerPast
     pub here : slice_get past.peers rank ≡ Some peer
@@ -183,7 +183,7 @@ module _ {D : Type 0} {g : Ghosts D} where
 
 -- ---- what has stopped
 
--- disks of a tape that has stopped: a stop leaves of them a tape whose ledger has P
+-- disks of a tape that has stopped: whatever a stop leaves of them is a tape whose ledger has P
 pub record DisksStand (P : State → Type 0) (past : TapePast) (disks : StopDisk × StopDisk) : Type 0 where
   pub log : (happened disks.0, happened disks.1) ≡ past.log
   pub faults : (all_faults disks.0, all_faults disks.1) ≡ past.faults
@@ -240,23 +240,23 @@ pub record WorldStands (world : World) (life : Life) : Type 0 where
   pub now : world.now ≡ life.now
   pub sound : IsSoundLife life
 
--- ---- what making a world and a run give
+-- ---- a world as it is made, and a run
 
--- a tape of this ledger as an opening found it: nothing was noted since
+-- a tape of this ledger as it was opened: nothing was noted since
 pub record IsFreshTape (state : State) (P : State → Type 0) (tape : TapePast) : Type 0 where
   pub history : tape.history ≡ found state
   pub faults : tape.faults ≡ (0, 0)
   pub works : tape.broken ≡ false
   pub safe : EachLedger P tape.log
 
--- the peer of these settings, whose tape was opened to this ledger: every number owed is ready
+-- the peer of these settings, whose tape was opened with this ledger: every debt owed is ready
 pub record IsFreshPeer (conf : PeerConf) (state : State) (peer : PeerPast) : Type 0 where
   pub conf_is : peer.conf ≡ conf
   pub tape : IsFreshTape state (KeepsNotes peer) peer.tape
   pub places : peer.places ≡ all_ready (keys state)
   pub parted : peer.parted ≡ false
 
--- A world that begins, with peers of what was given, in this order: its intake's tape was opened on empty disks, no
+-- A world as it begins, with peers of what was given, in this order: its intake's tape was opened on empty disks, no
 -- number is kept, there is no connection, no stop is armed, the moment is 0, and it runs.
 pub record IsFreshOf {A : Type 0} (IsPeer : A → PeerPast → Type 0) (given : List A) (life : Life) : Type 0 where
   pub peers : AllZip IsPeer given life.past.peers
@@ -270,11 +270,11 @@ pub record IsFreshOf {A : Type 0} (IsPeer : A → PeerPast → Type 0) (given : 
     running = true;
   }
 
--- of these settings: nothing was noted
+-- the same, of these settings: nothing was noted
 abbrev pub IsFresh : List PeerConf → Life → Type 0
 IsFresh confs life = IsFreshOf (λ (conf : PeerConf). IsFreshPeer conf start) confs life
 
--- it was not made: the step told is none, and memory was refused, or a disk in memory was refused it
+-- the world was not made: the fault is at step 0, and memory was refused, to a disk in memory or elsewhere
 pub record WasNotMade (fault : WorldFault) : Type 0 where
   pub step : fault.step ≡ 0
   pub lines : fault.lines.items ≡ []
@@ -286,8 +286,8 @@ pub record Ran (steps : List Step) (life : Life) (lines : List (List Said)) (wor
   pub runs : Runs life steps lines later
   pub stands : WorldStands world later
 
--- The steps before one were taken, this is what each of them told, and that one was refused: the world stands for
--- what it left.
+-- The steps before one were taken, and this is what each of them reported; that one was refused, and the world stands
+-- for what it left.
 pub record WasRefused (steps : List Step) (life : Life) (fault : WorldFault) (world : World) : Type 0 where
   pub index : ℕ
   pub numbered : fault.step ≡ index + 1
@@ -300,14 +300,14 @@ pub record WasRefused (steps : List Step) (life : Life) (fault : WorldFault) (wo
   pub safe : IsSafe later.past
   pub stands : WorldStands world later
 
--- there was no memory for what the steps and the counts tell, and none was taken
+-- there was no memory for what the steps and the counts report, and no step was taken
 pub record HadNoRoom (life : Life) (fault : WorldFault) (world : World) : Type 0 where
   pub numbered : fault.step ≡ 1
   pub kind : fault.kind ≡ NoMemory
   pub lines : fault.lines.items ≡ []
   pub stands : WorldStands world life
 
--- each peer's counts, by name; none while all is stopped
+-- each peer's counts, by name; empty while all is stopped
 abbrev pub counts_when : Bool → List PeerPast → List (List ℕ × Totals)
 counts_when true peers = map (λ (peer : PeerPast). (peer.conf.name, totals_of (ledger_at peer.tape))) peers
 counts_when false peers = []
@@ -318,9 +318,9 @@ counts_of life = counts_when life.running life.past.peers
 abbrev pub counts_in : List PeerTotals → List (List ℕ × Totals)
 counts_in totals = map (λ (peer : PeerTotals). (peer.name, peer.totals)) totals
 
--- ---- the contract of `World::run`: what a run answers
+-- ---- the contract of `World::run`
 
--- it reported, and told these lines and counts; or a step was refused, or there was no room
+-- the run returned these lines and counts; or a step was refused, or there was no room
 abbrev pub Reports : List Step → World → List (List Said) → List (List ℕ × Totals) → World → Type 0
 Reports steps old lines counts new = (life : Life) → WorldStands old life
     → (ran : Ran steps life lines new) × (counts ≡ counts_of ran.later)

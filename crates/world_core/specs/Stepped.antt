@@ -1,4 +1,4 @@
--- What it is that the stations took a step on tapes, or refused it.
+-- When the stations took a step on tapes, or refused it.
 use Rattle.std.specs.Prelude.{◌≡◌, ◌+◌, ◌<◌, ℕ, true, false, if◌then◌else◌, Option, None, Some, List, [], ◌∷◌, length}
 use Rattle.std.specs.Prelude.{map, take, slice_get}
 use Rattle.std.specs.List.{AllByRecursion}
@@ -23,23 +23,23 @@ use Rattle.world_core.specs.declared.output.Output.{Output}
 
 -- ---- the peers that a line names
 
--- each peer that is named, of those from this rank on, with its rank
+-- each peer that is named, with its rank, from this rank on
 abbrev pub named_from : ℕ → List (List ℕ) → List PeerPast → List (ℕ × PeerPast)
 named_from rank named [] = []
 named_from rank named (peer ∷ peers) =
     if is_named named peer then (rank, peer) ∷ named_from (rank + 1) named peers else named_from (rank + 1) named
     peers
 
--- these are the places and the names of the peers that are named, in order
+-- these are the ranks and the names of the peers that are named, in order
 abbrev pub AreFound : Past → List (List ℕ) → List (ℕ × List ℕ) → Type 0
 AreFound past named found =
     found ≡ map (λ (entry : ℕ × PeerPast). (entry.0, entry.1.conf.name)) (named_from 0 named past.peers)
 
--- there are so many peers that each of these places is one of theirs
+-- each of these ranks is that of one of this many peers
 abbrev pub AreWithin : ℕ → List (ℕ × List ℕ) → Type 0
 AreWithin count found = AllByRecursion (λ (entry : ℕ × List ℕ). entry.0 < count) found
 
--- the peer of this name stands there, or none has the name
+-- the peer of this name has this rank, or no peer has the name
 abbrev pub FoundAt : Past → List ℕ → Option ℕ → Type 0
 FoundAt past name None = AllByRecursion (λ (peer : PeerPast). bytes_eq name peer.conf.name ≡ false) past.peers
 FoundAt past name (Some rank) = (peer : PeerPast) × (slice_get past.peers rank ≡ Some peer) × (peer.conf.name ≡ name)
@@ -68,7 +68,7 @@ module _ {D : Type 0} {g : Ghosts D} where
     pub failed : Failed past events halt.fault stations
     pub at : calls_disk failed.fails.event ≡ Some halt.rank
 
-  -- so many peers were flushed, from the first on
+  -- this many peers were flushed, from the first on
   pub record PartedEach (past : Past) (count : ℕ) (stations : Stations D g) : Type 0 where
     pub did : Did past (each_rank Parts count) stations
     pub begun : did.later.begun ≡ past.begun
@@ -83,7 +83,7 @@ module _ {D : Type 0} {g : Ghosts D} where
 
   -- ---- steps
 
-  -- the step was taken, and told this
+  -- the step was taken, and reported this
   pub record Took (T : Past → List Said → Past → Type 0) (past : Past) (outputs : List Output) (stations : Stations D
       g) :
       Type 0 where
@@ -98,7 +98,7 @@ module _ {D : Type 0} {g : Ghosts D} where
     pub refuses : R past fault later
     pub stands : Stands stations later
 
-  -- The step was refused; where a disk failed, it did in one of these events, at the tape of the halt.
+  -- The step was refused; if a disk failed, it failed in one of these events, at the tape of the halt.
   pub record HaltedAs (R : Past → Fault → Past
       → Type 0) (begun : Past) (events : List Event) (past : Past) (halt : Halt) (stations : Stations D g) :
       Type 0 where

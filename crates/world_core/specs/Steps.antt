@@ -1,5 +1,5 @@
--- The steps on tapes (docs/FORMATS.md): each is a list of events, computed from the step and what stands before it.
--- Room for what a step tells is made first, so that memory is refused before any of its events, or by one of them.
+-- The steps on tapes (docs/FORMATS.md): each is a list of events, computed from the step and the tapes before it. Room
+-- for what a step reports is made first, so that memory is refused before any of its events, or by one of them.
 use Rattle.std.specs.Prelude.{◌≡◌, ◌≢◌, ◌⊎◌, ◌+◌, ◌<◌, ◌^◌, ℕ, true, false, if◌then◌else◌, None, Some, List, [], ◌∷◌}
 use Rattle.std.specs.Prelude.{◌++◌, length, map}
 use Rattle.std.specs.Prelude.{Bool}
@@ -23,7 +23,7 @@ use Rattle.world_core.specs.declared.fault.Fault.TheVariants.{CountFull, NoMemor
 abbrev pub is_named : List (List ℕ) → PeerPast → Bool
 is_named named peer = list_any (λ (name : List ℕ). bytes_eq name peer.conf.name) named
 
--- the line at each peer that it names, of those from this rank on
+-- the line at each peer that it names, from this rank on
 abbrev pub owes_from : ℕ → List ℕ → List ℕ → List (List ℕ) → List PeerPast → List Event
 owes_from rank token id named [] = []
 owes_from rank token id named (peer ∷ peers) =
@@ -34,7 +34,7 @@ owes_from rank token id named (peer ∷ peers) =
 abbrev pub line_events : List ℕ → List ℕ → List (List ℕ) → Past → List Event
 line_events token id named past = owes_from 0 token id named past.peers
 
--- what comes of a line of this number at each of them
+-- what becomes of a line of this number at each of them
 abbrev pub owed_there : ℕ → List (List ℕ) → List PeerPast → List (List ℕ × Answer)
 owed_there number named [] = []
 owed_there number named (peer ∷ peers) =
@@ -63,9 +63,9 @@ abbrev pub IsSealable : Past → ℕ → Type 0
 IsSealable past number = (past.begun ≡ Some number)
     × AllByRecursion (λ (peer : PeerPast). peer.parted ≡ true) past.peers
 
--- ---- what a line says
+-- ---- what a line contains
 
--- an article and the peers that are to have it, or why the line is not good
+-- an article and the peers that are to have it, or why the line is malformed
 pub data Reading : Type 0 where
   Good : (token id : List ℕ) (named : List (List ℕ)) → Reading
   NotGood : (fault : LineFault) → Reading
@@ -81,7 +81,7 @@ TakesReading (Good token id named) past outputs later =
 TakesReading (NotGood fault) past outputs later = (outputs ≡ Bad (past.last + 1) fault ∷ [])
     × (later ≡ with_last past (past.last + 1))
 
--- ---- what each step makes of all tapes, and tells
+-- ---- what each step makes of all tapes, and reports
 
 pub record TakesLine (text : List ℕ) (past : Past) (outputs : List Said) (later : Past) : Type 0 where
   pub fits : past.last + 1 < 2 ^ 64
@@ -123,7 +123,8 @@ TakesImport name text past outputs later =
 
 -- ---- how each is refused
 
--- The line has no number; or memory was refused before any event; or an event was refused, and those before it stand.
+-- No number is left for the line; or memory was refused before any event; or an event was refused, and those before it
+-- stand.
 abbrev pub RefusesLine : List ℕ → Past → Fault → Past → Type 0
 RefusesLine text past fault later =
     ((fault ≡ CountFull) × (past.last + 1 ≡ 2 ^ 64) × (later ≡ past))
@@ -137,7 +138,7 @@ RefusesNamed name past Fails fault later =
     ((fault ≡ NoPeer) × (rank_of past name ≡ None) × (later ≡ past))
     ⊎ ((rank : ℕ) × (rank_of past name ≡ Some rank) × Fails rank)
 
--- the same of a step that tells something, for which there may be no memory
+-- the same of a step that reports something, for which there may be no memory
 abbrev pub RefusesTelling : Type 0 → Past → Fault → Past → Type 0
 RefusesTelling Fails past fault later = ((fault ≡ NoMemory) × (later ≡ past)) ⊎ Fails
 

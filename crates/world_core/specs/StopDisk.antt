@@ -10,29 +10,29 @@ use Rattle.world_core.specs.declared.stop.StopDisk.{StopDisk}
 abbrev pub beneath : StopDisk → MemDisk
 beneath disk = disk.disk
 
--- what has happened to it
+-- what has happened to the disk beneath
 abbrev pub happened : StopDisk → List Event
 happened disk = events (beneath disk)
 
--- the rank of its tape: a peer's among the peers, and behind them the intake's
+-- the rank of its tape: a peer's rank; the intake's comes after all peers'
 abbrev pub rank_at : StopDisk → ℕ
 rank_at disk = disk.rank
 
--- how many faults it told by itself
+-- how many faults it reported by itself
 abbrev pub own_faults : StopDisk → ℕ
 own_faults disk = disk.faults
 
--- how many faults it told in all
+-- how many faults it reported in all
 abbrev pub all_faults : StopDisk → ℕ
 all_faults disk = min (own_faults disk + faults_in (beneath disk)) (2 ^ 64 - 1)
 
--- the call is passed on: it fails only where the disk beneath is refused memory, and then changes nothing
+-- the call is passed on: it fails only if memory is refused to the disk beneath, and then changes nothing
 pub record Passes (old new : StopDisk) (result : Result (Unit {0}) DiskFault) : Type 0 where
   pub whole : IsRefusedWhole (beneath old) (beneath new) result
   pub own : own_faults new ≡ own_faults old
 
--- The call fails, and has happened to the disk beneath all the same, where no sync follows it. Where that disk is
--- refused memory nothing has happened.
+-- The call fails, but has reached the disk beneath, and no sync follows it. If memory was refused to that disk, nothing
+-- has happened.
 pub record Reaches (event : Event) (old new : StopDisk) (result : Result (Unit {0}) DiskFault) : Type 0 where
   pub fails : IsErr result
   pub reached : (happened new ≡ event ∷ happened old)

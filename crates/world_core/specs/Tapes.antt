@@ -1,5 +1,5 @@
--- What the calls on a tape make of it (profile): each later tape is an equation, and each refusal has its condition.
--- P is what holds of the ledger of whatever a stop leaves at each moment of the call.
+-- What the calls on a tape make of it (profile): each later tape is an equation, and each refusal has its condition. P
+-- holds of the ledger of whatever a stop leaves at each moment of the call.
 use Rattle.std.specs.Prelude.{◌≡◌, ◌≢◌, ◌⊎◌, ◌+◌, ◌-◌, ◌≤◌, ◌^◌, ℕ, true, false, [], length}
 use Rattle.ledger_core.specs.declared.ledger.LedgerFault.TheVariants.{CountFull}
 use Rattle.ledger_core.specs.declared.note.Note.{Note}
@@ -16,22 +16,22 @@ use Rattle.world_core.specs.declared.fault.Fault.TheVariants.{NoMemory, Tape}
 
 -- ---- a note
 
--- one note more, which pends
+-- one more note, which pends
 abbrev pub noted_at : TapePast → Note → TapePast
 noted_at tape note = record tape { history = noted tape.history note }
 
--- there is room for one more: not so many pend as may
+-- there is room for one more note: fewer pend than may
 abbrev pub HasRoom : TapePast → Type 0
 HasRoom tape = length (pending_notes tape.history) ≢ most_pending
 
--- a note that ends a debt or is seen is refused
+-- a note that ends a debt, or a `Seen` note, is refused
 abbrev pub RefusesNote : TapePast → Fault → Type 0
 RefusesNote tape fault =
     ((fault ≡ Tape Broken) × (tape.broken ≡ true))
     ⊎ ((fault ≡ Tape PendingFull) × (tape.broken ≡ false) × (HasRoom tape → ⊥))
     ⊎ ((fault ≡ NoMemory) × (tape.broken ≡ false) × HasRoom tape)
 
--- a note that owes is refused: the station may want memory first, of its own
+-- a note that owes is refused: the station may be refused memory first
 abbrev pub RefusesOwe : TapePast → Note → Fault → Type 0
 RefusesOwe tape note fault =
     ((fault ≡ Tape Broken) × (tape.broken ≡ true))
@@ -39,7 +39,7 @@ RefusesOwe tape note fault =
     ⊎ ((fault ≡ Tape PendingFull) × (tape.broken ≡ false) × (Overflows (ledger_at tape) note → ⊥) × (HasRoom tape → ⊥))
     ⊎ ((fault ≡ NoMemory) × (tape.broken ≡ false))
 
--- the note that closes a source is refused: its source is the last one, or else as any note is
+-- the note that closes a source is refused: its source is the last one, or for the reason of any note
 abbrev pub RefusesClose : TapePast → Note → Fault → Type 0
 RefusesClose tape note fault =
     ((fault ≡ Tape (RefusedNote CountFull)) × (tape.broken ≡ false) × Overflows (ledger_at tape) note)
@@ -47,7 +47,7 @@ RefusesClose tape note fault =
 
 -- ---- a reading
 
--- it was read: a disk may have told a fault, and nothing else has happened
+-- it was read: a disk may have reported a fault, and nothing else has happened
 pub record IsReadTape (old new : TapePast) : Type 0 where
   pub first : old.faults.0 ≤ new.faults.0
   pub second : old.faults.1 ≤ new.faults.1
@@ -55,7 +55,7 @@ pub record IsReadTape (old new : TapePast) : Type 0 where
 
 -- ---- a flush
 
--- it answered Ok: all notes are acknowledged, and where none pended its disks were not called
+-- it answered Ok: all notes are acknowledged, and if none pended its disks were not called
 pub record IsFlushed (P : State → Type 0) (old new : TapePast) : Type 0 where
   pub worked : old.broken ≡ false
   pub fits : IsFullBy old.log old.history → ⊥
@@ -63,14 +63,14 @@ pub record IsFlushed (P : State → Type 0) (old new : TapePast) : Type 0 where
   pub moments : LedgersLeave P old.log new.log
   pub all : new ≡ record { history = flushed old.history; log = new.log; faults = old.faults; broken = false }
 
--- a disk told a fault, and the tape is broken from now on
+-- a disk failed, and the tape is broken from now on
 pub record Breaks (P : State → Type 0) (old new : TapePast) : Type 0 where
   pub worked : old.broken ≡ false
   pub cause : OneHasRisen old.faults new.faults
   pub moments : LedgersLeave P old.log new.log
   pub all : new ≡ record { history = old.history; log = new.log; faults = new.faults; broken = true }
 
--- something pends, and there is room for it in the segment
+-- some notes pend, and there is room for them in the segment
 abbrev pub MayFlush : TapePast → Type 0
 MayFlush tape = (pending_notes tape.history ≢ []) × (IsFullBy tape.log tape.history → ⊥)
 
@@ -83,14 +83,14 @@ RefusesFlush P old fault new =
 
 -- ---- a rotation
 
--- it works, and on its disks lies a tape whose segment that lives has this generation
+-- it works, and the live segment on its disks has this generation
 pub record LivesBy (tape : TapePast) (generation : ℕ) : Type 0 where
   pub works : tape.broken ≡ false
   pub size : ℕ
   pub lives : HasSegment tape.log generation size
 
--- What a rotation comes to before it writes: the tape is broken; no generation is greater than the one that lives; what
--- it would write behind that is too long; or it can be written.
+-- What a rotation comes to before it writes: the tape is broken; the live generation is the greatest there is; what it
+-- would write is too long; or it can write.
 pub data Rotation : Type 0 where
   Is_broken : Rotation
   Is_last : Rotation
@@ -105,7 +105,7 @@ ComesTo tape generation Is_long =
 ComesTo tape generation Fits =
     LivesBy tape generation × (generation ≢ 2 ^ 64 - 1) × (RotatesTooLongBy generation tape.history → ⊥)
 
--- It answered this generation, the one behind that which lay there, and that lies there now: all notes are
+-- The rotation returned this generation, the one after that which was live, and it is live now: all notes are
 -- acknowledged.
 pub record IsRotated (P : State → Type 0) (generation : ℕ) (old new : TapePast) : Type 0 where
   pub before : ℕ
@@ -115,7 +115,7 @@ pub record IsRotated (P : State → Type 0) (generation : ℕ) (old new : TapePa
   pub moments : LedgersLeave P old.log new.log
   pub all : new ≡ record { history = flushed old.history; log = new.log; faults = old.faults; broken = false }
 
--- Where it changes nothing else, what it writes anew was read.
+-- How it is refused. If the tape is not broken by it, the tape was only read.
 abbrev pub RefusesAs : (State → Type 0) → Rotation → TapePast → Fault → TapePast → Type 0
 RefusesAs P Is_broken old fault new = (fault ≡ Tape Broken) × IsReadTape old new
 RefusesAs P Is_last old fault new = (fault ≡ Tape GenerationFull) × IsReadTape old new
@@ -129,8 +129,8 @@ RefusesRotate P old fault new =
 
 -- ---- an opening
 
--- What lay there was the ledger after the first of its notes, every acknowledged one among them; these are its notes
--- now, all of them acknowledged.
+-- The disks held the ledger of a prefix of its notes, with every acknowledged one in it; that prefix is its notes now,
+-- all of them acknowledged.
 pub record IsReopened (P : State → Type 0) (old new : TapePast) : Type 0 where
   pub count : ℕ
   pub enough : old.history.kept ≤ count
@@ -139,7 +139,7 @@ pub record IsReopened (P : State → Type 0) (old new : TapePast) : Type 0 where
   pub moments : LedgersLeave P old.log new.log
   pub all : new ≡ record { history = recovered old.history count; log = new.log; faults = old.faults; broken = false }
 
--- It was refused, and stays as it was but for what has happened to its disks. It is never damaged.
+-- The opening was refused, and the tape stays as it was but for what has happened to its disks. It is never damaged.
 pub record RefusesOpen (P : State → Type 0) (old : TapePast) (fault : Fault) (new : TapePast) : Type 0 where
   pub why : ((fault ≡ Tape Disk) × OneHasRisen old.faults new.faults) ⊎ (fault ≡ NoMemory)
   pub moments : LedgersLeave P old.log new.log

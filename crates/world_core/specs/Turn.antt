@@ -1,4 +1,4 @@
--- What a call that takes one step answers.
+-- What a call that takes one step returns.
 use Rattle.std.specs.Prelude.{◌≡◌, ◌⊎◌, ℕ, true, false, List, [], ◌∷◌, map, option_map}
 use Rattle.disk_model.specs.declared.choice.Choice.{Choice}
 use Rattle.recovery.specs.declared.fault.TapeFault.TheVariants.{Disk}
@@ -20,7 +20,7 @@ use Rattle.world_core.specs.declared.world.Stage.{Stage}
 use Rattle.world_core.specs.declared.world.Stage.TheVariants.{Running, Stopped}
 use Rattle.world_core.specs.declared.world.World.{World}
 
--- the step was taken, and told this
+-- the step was taken, and reported this
 pub record Took (step : Step) (life : Life) (outputs : List Output) (world : World) : Type 0 where
   pub later : Life
   pub takes : Takes step life (map said_of outputs) later
@@ -32,7 +32,7 @@ pub record WasNotTaken (step : Step) (life : Life) (fault : Fault) (world : Worl
   pub refuses : RefusesStep step life fault later
   pub stands : WorldStands world later
 
--- the step was taken, and told this; no stop was met
+-- the step was taken, and reported this; no stop was met
 pub record Did (step : Step) (life : Life) (outputs : List Output) (world : World) : Type 0 where
   pub later : Life
   pub does : Does step life (map said_of outputs) later
@@ -43,20 +43,20 @@ abbrev pub names_at : Stage → List (List ℕ)
 names_at (Running stations connections) = map (λ peer. peer.conf.name) stations.peers.items
 names_at (Stopped peers intake) = map (λ (peer : StoppedPeer). peer.conf.name) peers.items
 
--- a step makes this of the world, and tells this
+-- a step makes this of the world, and reports this
 pub record Made (T : Life → List Said → Life → Type 0) (life : Life) (outputs : List Output) (world : World) : Type 0
   where
     pub later : Life
     pub makes : T life (map said_of outputs) later
     pub stands : WorldStands world later
 
--- a step is refused so
+-- a step is refused
 pub record Refused (R : Life → Fault → Life → Type 0) (life : Life) (fault : Fault) (world : World) : Type 0 where
   pub later : Life
   pub refuses : R life fault later
   pub stands : WorldStands world later
 
--- what a stop at rest is, and how it is refused
+-- what a stop at rest does, and how it is refused
 abbrev pub TakesRest : Life → List Said → Life → Type 0
 TakesRest life outputs later = (life.running ≡ true) × (outputs ≡ SaidStopped ∷ []) × (later
     ≡ halted AtRest life.past life)
@@ -67,7 +67,7 @@ RefusesRest life fault later =
 
 -- ---- a step that may meet a stop
 
--- What a refused step leaves of a world, whose tapes were under way so: it runs on, or has stopped still.
+-- What a refused step leaves of a world, whose tapes were then like this: it runs on, or stays stopped.
 abbrev pub GoesOn : Life → Past → Life → Type 0
 GoesOn life under_way now =
     ((life.running ≡ true) × (now ≡ with_past life under_way))
@@ -89,14 +89,14 @@ pub record WasHalted (step : Step) (life : Life) (halt : Halt) (world : World) :
   pub stands : WorldStands world now
   pub disk : halt.fault ≡ Tape Disk → DiskFails step life halt under_way
 
--- a stop was met, and told
+-- a stop was met, and reported
 pub record WasStruck (life : Life) (under_way : Past) (choice : Choice) (outputs : List Output) (world : World) :
     Type 0 where
   pub outputs_are : map said_of outputs ≡ SaidStopped ∷ []
   pub stands : WorldStands world (halted (ByChoice choice) under_way life)
 
--- Or there was no memory for what its choice leaves, and all has stopped as at rest; or none to stop, and the step is
--- refused.
+-- Or there was no memory for what its choice leaves, and all has stopped as at rest; or there was none to stop either,
+-- and the step is refused.
 abbrev pub WasStruckUnreported : (life : Life) → (under_way : Past) → (now : Life) → (refused fault : Fault) → World
     → Type 0
 WasStruckUnreported life under_way now refused fault world =

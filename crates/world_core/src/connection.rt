@@ -1,4 +1,4 @@
-// The connections of a world: what comes of each step on one, at its peer's station and in what is reported.
+// The connections of a world: what each step on one does at its peer's station, and what it reports.
 ghost use Rattle.std.specs.Prelude.{◌≡◌, ◌<◌, ◌++◌, ◌∷◌, [], ℕ, List, None, Option, true};
 ghost use Rattle.std.specs.Prelude.{is_none, length, map, option_to_list, IfErr, IfOk, IfSome, MatchOption};
 ghost use Rattle.std.specs.Prelude.{OnOk};
@@ -29,7 +29,7 @@ pub(crate) struct Connection {
     // The rank of its peer among the peers.
     pub(crate) rank: usize,
     pub(crate) conn: Conn,
-    // An outcome that was taken from it and that its peer's station refused: it is the first to be taken still.
+    // An outcome that its peer's station refused: it is the next to be settled.
     pub(crate) waiting: Option<Outcome>,
 }
 
@@ -41,7 +41,7 @@ impl Connection {
     ghost use Rattle.world_core.specs.Pairs.{Received, ReceivedNot, Supplied, SuppliedNot, TakesNext};
     ghost use Rattle.world_core.specs.Stands.{HoldsTranscript};
 
-    /// A connection of this number to the peer of these settings at this rank.
+    /// Makes a connection of this number to the peer at this rank, which has these settings.
     ///
     /// # Errors
     /// Memory was refused.
@@ -65,7 +65,7 @@ impl Connection {
         })
     }
 
-    // The outcome that waits, or the next.
+    // The outcome that waits, or the connection's next.
     fn next_outcome(&mut self) -> Option<Outcome>
         ensures takes { (conf : PeerConf) (past : ConnPast)
             → HoldsTranscript conf past self.old → WaitsWith conf past self.old.waiting
@@ -81,8 +81,8 @@ impl Connection {
         }
     }
 
-    // Takes the next outcome to the station of its peer, and tells what became of its debt; `false` where there is
-    // none. One that is refused waits.
+    // Takes the next outcome to the station of its peer, and reports what became of its debt; `false` if there is none.
+    // An outcome that the station refuses waits.
     fn settle_next<D: Disk>(
         &mut self,
         peer: &mut Peer<D>,
@@ -122,7 +122,7 @@ impl Connection {
         }
     }
 
-    // Takes each outcome to the station of its peer, oldest first, and tells what became of its debt.
+    // Takes each outcome to the station of its peer, oldest first, and reports what became of its debt.
     fn settle_all<D: Disk>(
         &mut self,
         peer: &mut Peer<D>,
@@ -141,7 +141,7 @@ impl Connection {
         Ok(())
     }
 
-    // Claims the least candidate and offers it, and tells what became of it. One that is not taken is given back.
+    // Hands over the least candidate, and reports what became of it.
     pub(crate) fn hand<D: Disk>(
         &mut self,
         peer: &mut Peer<D>,
@@ -165,7 +165,7 @@ impl Connection {
         self.tell(peer, was_open, now, outputs)
     }
 
-    // Claims the least candidate and offers it. One that is not taken is given back.
+    // Claims the least candidate and offers it. If the connection doesn't take it, it is given back.
     fn offer_next<D: Disk>(&mut self, peer: &mut Peer<D>, now: u64) -> Result<Handed, Fault>
         ensures ok { (id : ℕ) (conn : ConnPast) (past : PeerPast)
             → PairStands id conn past self.old peer.old
@@ -175,7 +175,7 @@ impl Connection {
             → IfErr result (λ fault. HandedNot id now conn past fault self.new peer.new) }
     {
         let id = self.conn.id();
-        // proof: no candidate is held.
+        // proof: no connection holds a candidate.
         each_number_has_one_place(&peer.station);
         let claimed = match peer.station.claim(id, now) {
             Ok(claimed) => claimed,
@@ -198,7 +198,7 @@ impl Connection {
         }
     }
 
-    // Octets come in from the peer's server.
+    // Takes in octets that came from the peer's server.
     pub(crate) fn receive<D: Disk>(
         &mut self,
         peer: &mut Peer<D>,
@@ -219,7 +219,7 @@ impl Connection {
         self.tell(peer, was_open, now, outputs)
     }
 
-    // What was found of the article that is wanted is handed in.
+    // Hands in what was found of the article that is wanted.
     pub(crate) fn supply<D: Disk>(
         &mut self,
         peer: &mut Peer<D>,
@@ -247,7 +247,7 @@ impl Connection {
         }
     }
 
-    // The moment is this: it closes where an answer is late.
+    // Sets the moment. The connection closes if an answer is late.
     pub(crate) fn tick<D: Disk>(
         &mut self,
         peer: &mut Peer<D>,
@@ -268,8 +268,8 @@ impl Connection {
         self.tell(peer, was_open, now, outputs)
     }
 
-    // What follows each step: the outcomes go to the station, the output is reported and counts as sent, and what is
-    // wanted is reported, and why the step closed it, where it was open before.
+    // What follows each step: the outcomes go to the station; the output is reported, and counts as sent; the wanted
+    // article is reported; and if the step closed the connection, so is the reason.
     fn tell<D: Disk>(
         &mut self,
         peer: &mut Peer<D>,
@@ -295,7 +295,6 @@ impl Connection {
         Ok(())
     }
 
-    // The connection breaks.
     pub(crate) fn break_off<D: Disk>(
         &mut self,
         peer: &mut Peer<D>,
@@ -316,7 +315,7 @@ impl Connection {
     }
 }
 
-// How a connection to a peer of these settings works.
+// How a connection to a peer of these settings behaves.
 fn options_of(conf: &PeerConf) -> Options
     ensures { result ≡ options_of conf.now }
 {
@@ -330,7 +329,7 @@ fn options_of(conf: &PeerConf) -> Options
     }
 }
 
-// The same once more.
+// A copy, since a step's text is lent, and the connection takes its own.
 fn copy_of(found: &Found) -> Result<Found, AllocError>
     ensures { IfOk result (λ copy. copy ≡ found.now) }
 {
@@ -341,7 +340,7 @@ fn copy_of(found: &Found) -> Result<Found, AllocError>
     }
 }
 
-// Tells each line of the output.
+// Reports each line of the output.
 fn add_sent(outputs: &mut Vec<Output>, connection: u64, output: &[u8]) -> Result<(), AllocError>
     ensures { OnOk result (Tells outputs.old.items
         (map (SentLine connection) (lines_in output.now)) outputs.new.items) }
@@ -356,7 +355,6 @@ fn add_sent(outputs: &mut Vec<Output>, connection: u64, output: &[u8]) -> Result
     Ok(())
 }
 
-// Tells which article is wanted.
 fn add_need(outputs: &mut Vec<Output>, connection: u64, need: Option<Key>) -> Result<(), AllocError>
     ensures { OnOk result (Tells outputs.old.items (need_said connection need) outputs.new.items) }
 {
@@ -366,7 +364,7 @@ fn add_need(outputs: &mut Vec<Output>, connection: u64, need: Option<Key>) -> Re
     Ok(())
 }
 
-// Tells why a connection closed, where it was open before.
+// Reports why a connection closed, if it was open before the step.
 fn add_closed(
     outputs: &mut Vec<Output>,
     connection: u64,

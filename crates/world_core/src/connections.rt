@@ -1,4 +1,4 @@
-// The steps of a world on its connections: each finds the connection and its peer, and tells what comes of it.
+// The steps of a world on its connections: each finds the connection and its peer, and reports what comes of it.
 ghost use Rattle.std.specs.Prelude.{◌≡◌, ◌≢◌, ◌+◌, ◌<◌, ◌^◌, [], Some, length, map, slice_get};
 ghost use Rattle.std.specs.Prelude.{IfErr, IfNone, IfOk, IfSome, OnOk, vec_len};
 ghost use Rattle.std.specs.List.{AllByRecursion};
@@ -23,10 +23,10 @@ impl World {
     ghost use Rattle.world_core.specs.Stands.{WorldStands};
     ghost use Rattle.world_core.specs.Turn.{Made, Refused};
 
-    /// A connection to the peer of this name is made, with the number behind the last.
+    /// Makes a connection to the peer of this name, with the number after the last.
     ///
     /// # Errors
-    /// `Stopped`; `NoPeer` where none has this name; `CountFull`; `NoMemory`.
+    /// `Stopped`; `NoPeer` if no peer has this name; `CountFull`; `NoMemory`.
     pub(crate) fn connect(&mut self, name: &PeerName, out: &mut Vec<Output>) -> Result<(), Fault>
         requires { out.old.items ≡ [] }
         ensures ok { (life : Life) → WorldStands self.old life → OnOk result
@@ -41,7 +41,7 @@ impl World {
         Ok(())
     }
 
-    /// The least candidate of the peer of this connection is claimed and offered.
+    /// Claims the least candidate of this connection's peer, and offers it.
     ///
     /// # Errors
     /// `Stopped`; `NoConnection`; `NoMemory`; the station's.
@@ -58,7 +58,7 @@ impl World {
         stations.hand(connections, id, self.now, out)
     }
 
-    /// These octets come in on this connection.
+    /// Takes in these octets on this connection.
     ///
     /// # Errors
     /// `Stopped`; `NoConnection`; `NoMemory`; the station's.
@@ -80,10 +80,10 @@ impl World {
         stations.bytes(connections, id, octets, self.now, out)
     }
 
-    /// This was found of the article that this connection wants.
+    /// Hands in what was found of the article that this connection wants.
     ///
     /// # Errors
-    /// `Stopped`; `NoConnection`; `NotNeeded` where it wants none; `NoMemory`; the station's.
+    /// `Stopped`; `NoConnection`; `NotNeeded` if it wants none; `NoMemory`; the station's.
     pub(crate) fn article(
         &mut self,
         id: u64,
@@ -102,7 +102,7 @@ impl World {
         stations.article(connections, id, found, self.now, out)
     }
 
-    /// This connection breaks.
+    /// Breaks this connection.
     ///
     /// # Errors
     /// `Stopped`; `NoConnection`; `NoMemory`; the station's.
@@ -119,7 +119,7 @@ impl World {
         stations.break_off(connections, id, self.now, out)
     }
 
-    /// The moment is this for all connections, in the order of their numbers.
+    /// Sets the moment of all connections, in the order of their numbers.
     ///
     /// # Errors
     /// `Stopped`; `NoMemory`; the stations'.
@@ -142,7 +142,7 @@ impl<D: Disk> Stations<D> {
     ghost use Rattle.world_core.specs.Joined.{AreRunning, FoundConn, MadeOn, RefusedOn, RefusesAct};
     ghost use Rattle.world_core.specs.Joined.{TicksNot, TicksOne, TicksOneNot, TicksSome};
 
-    // A connection to the peer of this name is made, with the number behind the last, which is reported.
+    // Makes a connection to the peer of this name, with the number after the last, and reports it.
     fn connect(
         &mut self,
         connections: &mut Vec<Connection>,
@@ -176,7 +176,6 @@ impl<D: Disk> Stations<D> {
         Ok(number)
     }
 
-    // The least candidate of the peer of this connection is claimed and offered.
     fn hand(
         &mut self,
         connections: &mut Vec<Connection>,
@@ -200,7 +199,6 @@ impl<D: Disk> Stations<D> {
         connection.hand(peer, now, outputs)
     }
 
-    // These octets come in on this connection.
     fn bytes(
         &mut self,
         connections: &mut Vec<Connection>,
@@ -226,7 +224,6 @@ impl<D: Disk> Stations<D> {
         connection.receive(peer, octets, now, outputs)
     }
 
-    // This was found of the article that this connection wants.
     fn article(
         &mut self,
         connections: &mut Vec<Connection>,
@@ -252,7 +249,6 @@ impl<D: Disk> Stations<D> {
         connection.supply(peer, found, now, outputs)
     }
 
-    // This connection breaks.
     fn break_off(
         &mut self,
         connections: &mut Vec<Connection>,
@@ -276,7 +272,6 @@ impl<D: Disk> Stations<D> {
         connection.break_off(peer, now, outputs)
     }
 
-    // The moment is this for each connection, in the order of their numbers.
     fn tick(
         &mut self,
         connections: &mut Vec<Connection>,
@@ -297,7 +292,7 @@ impl<D: Disk> Stations<D> {
         Ok(())
     }
 
-    // The moment is this for the connection that stands there.
+    // Sets the moment of the connection at this index.
     fn tick_at(
         &mut self,
         connections: &mut Vec<Connection>,
@@ -324,7 +319,7 @@ impl<D: Disk> Stations<D> {
         connection.tick(peer, now, outputs)
     }
 
-    // Where the connection of this number stands, and its peer.
+    // The index of the connection of this number, and the rank of its peer.
     fn find_conn(&self, connections: &[Connection], id: u64) -> Option<(usize, usize)>
         ensures found { (life : Life) → AreRunning life self.now connections.now
             → FoundConn life id result }
@@ -341,7 +336,7 @@ impl<D: Disk> Stations<D> {
     }
 }
 
-// Where the connection of this number stands, by halves: the numbers rise.
+// The index of the connection of this number, by binary search: the numbers rise.
 fn index_of(connections: &[Connection], id: u64) -> Option<usize>
     ensures some { IfSome result (λ index. (index < length connections.now)
         × ((c : Connection) → slice_get connections.now index ≡ Some c → c.conn.id.0 ≡ id)) }

@@ -18,26 +18,26 @@ use thiserror::Error;
 pub enum Fault {
     /// No peer has this name.
     NoPeer,
-    /// There is no connection of this number: none was made, or a stop ended it.
+    /// There is no connection of this number: none was made, or a stop (a crash) ended it.
     NoConnection,
-    /// All is stopped, and only `Restart` and the arming of a stop are steps.
+    /// All has stopped: the only steps are `Restart` and the arming of a stop.
     Stopped,
     /// Nothing is stopped, so there is nothing to restart.
     Running,
     /// The connection wants no article.
     NotNeeded,
-    /// A tape refused; its `NoMemory` is the step's own.
+    /// A tape refused, for a reason other than memory.
     Tape(TapeFault),
-    /// A number would pass the greatest that there is.
+    /// The number of a line or of a connection would pass the greatest there is.
     CountFull,
     /// Memory was refused.
     NoMemory,
-    /// No number is kept, or some peer was not flushed since.
+    /// No number is kept to be sealed, or some peer was not flushed since it was kept.
     NotFlushed,
 }
 
 impl Fault {
-    /// The word by which messages and scripts tell it, with that of the tape's fault within.
+    /// The word by which messages and scripts report it; `Tape` is followed by the tape's fault.
     pub fn name(self) -> &'static str
         ensures { result.now ≡ fault_name self }
     {
@@ -54,7 +54,7 @@ impl Fault {
         }
     }
 
-    // A tape's fault, as a step tells it.
+    // A tape's fault, as a step reports it.
     pub(crate) fn from_tape(fault: TapeFault) -> Fault
         ensures { result ≡ fault_of fault }
     {
@@ -64,7 +64,7 @@ impl Fault {
         }
     }
 
-    // A station's fault, as a step tells it. No step has a station settle what it does not hold.
+    // A station's fault, as a step reports it. No step makes a station settle what it does not hold.
     pub(crate) fn from_station(fault: StationFault) -> Fault
         ensures { result ≡ fault_of_station fault }
     {
@@ -77,7 +77,6 @@ impl Fault {
     }
 }
 
-// The words for why a tape refused.
 fn tape_name(fault: TapeFault) -> &'static str
     ensures { result.now ≡ fault_name (Tape fault) }
 {
@@ -96,8 +95,8 @@ fn tape_name(fault: TapeFault) -> &'static str
     }
 }
 
-/// At which tape a step was refused, a peer's by its rank or the intake's, and why. The tape is of weight only where
-/// a disk failed.
+/// Why a step was refused, and at which tape: a peer's, by its rank, or the intake's. The tape matters only if a disk
+/// failed.
 #[derive(Clone, Copy, Debug, PartialEq, Eq)]
 pub(crate) struct Halt {
     pub(crate) rank: Option<usize>,
@@ -107,7 +106,7 @@ pub(crate) struct Halt {
 /// A run that ended at a refused step.
 #[derive(Debug, Drop)]
 pub struct WorldFault {
-    /// Which step it was, from 1 on; 0 where the world was not made.
+    /// Which step it was, from 1 on; 0 if the world was not made.
     pub step: usize,
     /// Why it was refused.
     pub kind: Fault,
@@ -118,8 +117,8 @@ pub struct WorldFault {
 /// Why no world was made of given tapes.
 #[derive(Debug, Drop, Error)]
 pub enum TapesFault {
-    /// The tape of this peer was refused: `Damaged` where the octets are none, or `Disk` where a disk in memory was
-    /// refused memory.
+    /// The tape of this peer was refused: `Damaged` if the octets are no tape, or `Disk` if memory was refused to a
+    /// disk in memory.
     #[error("Tape {fault}")]
     Tape { peer: PeerName, fault: TapeFault },
     /// Memory was refused.

@@ -1,4 +1,4 @@
-// What a stop makes of all stations: they are closed, and a choice leaves of their disks what a stop may.
+// What a stop makes of all stations: they close, and each disk keeps what the stop's choice leaves of it.
 ghost use Rattle.std.specs.Prelude.{◌≡◌, ◌≤◌, [], List, length, map, IfOk, vec_capacity, vec_len};
 ghost use Rattle.std.specs.List.{AllZip};
 ghost use Rattle.world_core.specs.Halting.{AreLeftBy, IsLeftOf, with_disks};
@@ -13,7 +13,7 @@ use disk_model::Choice;
 use std::alloc::{AllocError, Global};
 
 impl Peer<StopDisk> {
-    // Stops it: what pends is gone, and its disks stay as they are.
+    // Stops it: pending notes are gone, and its disks stay as they are.
     fn halt(self) -> StoppedPeer
         ensures { (past : PeerPast) → PeerStands past self
             → StoppedStands (left_peer AtRest past) result }
@@ -30,7 +30,7 @@ impl Stations<StopDisk> {
     ghost use Rattle.world_core.specs.Past.{Past};
     ghost use Rattle.world_core.specs.Stands.{Stands};
 
-    // Stops all peers, for which there is room, and the intake: what pends is gone, and all disks stay as they are.
+    // Stops all peers, for which there is room, and the intake: pending notes are gone, and all disks stay as they are.
     pub(crate) fn halt(self, room: Vec<StoppedPeer>) -> (Vec<StoppedPeer>, (StopDisk, StopDisk))
         requires empty { room.items ≡ [] }
         requires room { vec_len self.peers ≤ vec_capacity room }
@@ -42,7 +42,6 @@ impl Stations<StopDisk> {
     }
 }
 
-// Stops these peers, for which there is room.
 pub(crate) fn halt_each(peers: Vec<Peer<StopDisk>>, mut room: Vec<StoppedPeer>) -> Vec<StoppedPeer>
     requires empty { room.items ≡ [] }
     requires room { vec_len peers ≤ vec_capacity room }
@@ -57,7 +56,7 @@ pub(crate) fn halt_each(peers: Vec<Peer<StopDisk>>, mut room: Vec<StoppedPeer>) 
     room
 }
 
-// What the choice leaves of two disks. These stay as they are.
+// What the choice leaves of two disks, as new disks.
 pub(crate) fn left_disks(
     disks: &(StopDisk, StopDisk),
     choice: Choice,
@@ -67,7 +66,7 @@ pub(crate) fn left_disks(
     Ok((disks.0.left(choice)?, disks.1.left(choice)?))
 }
 
-// What the choice leaves of the disks of these peers. These stay as they are.
+// What the choice leaves of the disks of these peers, as new disks.
 pub(crate) fn left_each(
     alloc: Global,
     peers: &[StoppedPeer],
@@ -82,7 +81,7 @@ pub(crate) fn left_each(
     Ok(disks)
 }
 
-// Gives each of these peers its disks in the place of those that it has. There is room for them.
+// Replaces the disks of each of these peers. There is room for them.
 pub(crate) fn with_disks(
     peers: Vec<StoppedPeer>,
     disks: Vec<(StopDisk, StopDisk)>,

@@ -1,4 +1,4 @@
-// Backlog files that are taken in: the good lines of a text, and what becomes of them at their peer.
+// The import of backlog files: the good lines of a text, and what becomes of them at their peer.
 ghost use Rattle.std.specs.Prelude.{◌≡◌, ◌<◌, ◌≤◌, ℕ, [], map, IfErr, IfOk, OnOk, vec_len};
 ghost use Rattle.world_core.specs.Imports.{HasGood};
 ghost use Rattle.world_core.specs.Importing.{Gains, good_of, one_new};
@@ -31,8 +31,8 @@ impl<D: Disk> Stations<D> {
     ghost use Rattle.world_core.specs.Stepped.{Did, Failed, Took, TookNot};
     ghost use Rattle.world_core.specs.Steps.{RefusesImport, TakesImport};
 
-    /// Takes in a backlog file of this peer, which has this text: each good line is owed, their source is closed, and
-    /// the peer is flushed, and before each note that no more may pend before.
+    /// Imports a backlog file of this peer, which has this text: each good line is owed, their source is closed, and
+    /// the peer is flushed. The peer is also flushed before each note for which there would be no room.
     ///
     /// # Errors
     /// `NoPeer` if none has this name; `NoMemory`; the station's.
@@ -59,7 +59,7 @@ impl<D: Disk> Stations<D> {
         Ok(outputs)
     }
 
-    // Owes each of these lines at the peer of this rank, and tells how many are new.
+    // Owes each of these lines at the peer of this rank, and returns how many are new.
     fn import_each(&mut self, rank: usize, lines: &[BacklogLine]) -> Result<u64, Fault>
         requires { rank < vec_len self.old.peers }
         ensures ok { (past : Past) (source pending mark : ℕ) → Stands self.old past
@@ -78,7 +78,7 @@ impl<D: Disk> Stations<D> {
         Ok(new)
     }
 
-    // Closes the source that is open at the peer of this rank, flushes the peer, and gives the source.
+    // Closes the source that is open at the peer of this rank, flushes the peer, and returns the source.
     fn close_all(&mut self, rank: usize) -> Result<u32, Fault>
         requires { rank < vec_len self.old.peers }
         ensures ok { (past : Past) (source pending mark : ℕ) → Stands self.old past
@@ -94,7 +94,7 @@ impl<D: Disk> Stations<D> {
         Ok(source)
     }
 
-    // Owes a line at the peer of this rank, and tells what came of it.
+    // Owes a line at the peer of this rank, and returns what came of it; makes room first.
     fn import_line(&mut self, rank: usize, line: &BacklogLine) -> Result<Owed, Fault>
         requires { rank < vec_len self.old.peers }
         ensures ok { (past : Past) (source pending mark : ℕ) → Stands self.old past
@@ -131,7 +131,7 @@ impl<D: Disk> Stations<D> {
         self.make_room(rank)
     }
 
-    // Makes room for a note at the peer of this rank: flushes it if no more notes may pend.
+    // Flushes the peer of this rank if no more notes may pend.
     fn make_room(&mut self, rank: usize) -> Result<(), Fault>
         requires { rank < vec_len self.old.peers }
         ensures ok { (past : Past) (source pending mark : ℕ) → Stands self.old past
@@ -149,7 +149,7 @@ impl<D: Disk> Stations<D> {
         self.spill_at(rank)
     }
 
-    // Owes a line at the peer of this rank, if there is room, and tells what came of it.
+    // Owes a line at the peer of this rank, for which there is room.
     fn import_at(&mut self, rank: usize, line: &BacklogLine) -> Result<Owed, Fault>
         requires { rank < vec_len self.old.peers }
         ensures ok { (past : Past) → Stands self.old past → IfOk result (λ owed.
@@ -162,7 +162,6 @@ impl<D: Disk> Stations<D> {
         peer.import(line.number, &line.token, &line.id)
     }
 
-    // Closes the source that is open at the peer of this rank, if there is room, and gives it.
     fn close_at(&mut self, rank: usize) -> Result<u32, Fault>
         requires { rank < vec_len self.old.peers }
         ensures ok { (past : Past) → Stands self.old past
@@ -175,7 +174,6 @@ impl<D: Disk> Stations<D> {
         peer.close()
     }
 
-    // Flushes the peer of this rank.
     fn spill_at(&mut self, rank: usize) -> Result<(), Fault>
         requires { rank < vec_len self.old.peers }
         ensures ok { (past : Past) → Stands self.old past
@@ -189,7 +187,7 @@ impl<D: Disk> Stations<D> {
     }
 }
 
-// How an answer counts among those that are new.
+// 1 if the line is new.
 fn count_new(owed: Owed) -> u64
     ensures is { result ≡ one_new owed }
     ensures most { result ≤ 1 }
@@ -200,7 +198,6 @@ fn count_new(owed: Owed) -> u64
     }
 }
 
-// The good lines of a text, in order.
 fn read_lines(alloc: Global, text: &[u8]) -> Result<Vec<BacklogLine>, AllocError>
     ensures { IfOk result (λ lines. HasGood text.now (map good_of lines.items)) }
 {
@@ -215,7 +212,6 @@ fn read_lines(alloc: Global, text: &[u8]) -> Result<Vec<BacklogLine>, AllocError
     Ok(lines)
 }
 
-// Adds the line of this number, if it is good.
 fn add_line(
     alloc: Global,
     number: u64,

@@ -22,23 +22,23 @@ pub fn acknowledged_lines_stand()
     ensures { (past : Past) → IsSafe past → LinesAreAcknowledged past }
 {}
 
-/// Whatever events happen to all tapes, one after another, what was acknowledged of each peer's notes stays so.
+/// Whatever events happen to the tapes, one after another, the acknowledged notes of each peer stay acknowledged.
 pub fn acknowledged_notes_stay()
     ensures { (begun later : Past) (events : List Event) → AllDo begun events later
         → PeersStay begun later }
 {}
 
-/// Where what was acknowledged of a peer's notes stays so, each debt that was acknowledged, or that its history began
-/// from, is owed after the first of its notes, however many of those that pend are among them, unless the peer has a
-/// final answer or a noted drop of it. So it is at each moment within a call too, where whatever a stop leaves is the
-/// tape of such notes.
+/// If what was acknowledged of a peer's notes stays so, then each debt that was acknowledged, or that the peer's
+/// history began from, is owed after any prefix of its notes that has every acknowledged one in it, unless the peer's
+/// notes have a final answer to it or a drop of it. The same holds at each moment within a call: whatever a stop leaves
+/// then is the tape of such a prefix.
 pub fn acknowledged_debts_stay_owed()
     ensures { (was now : PeerPast) → PeerStays was now → StillOwes was now }
 {}
 
-/// The world behind a run has come about by the run's steps, whatever came before; where one was refused, by those up
-/// to that one, and it. So the laws over any steps hold of it. By `Comes` it is sound, so that the next run begins from
-/// it.
+/// The world after a run has come about by the run's steps, whatever came before; if one was refused, by those up to
+/// and including it. So the laws over any steps hold of that world. By `Comes` it is sound, so that the next run can
+/// begin from it.
 pub fn each_run_comes_about()
     ensures begins { (life : Life) (world : World) → WorldStands world life
         → Comes life [] [] life }
@@ -53,55 +53,57 @@ pub fn each_run_comes_about()
         (outputs ++ said_by fault.lines.items) was.later }
 {}
 
-/// Over any steps, taken or refused, stops and restarts among them, what was acknowledged of each peer's notes stays
-/// so.
+/// Over any steps, taken or refused, stops and restarts among them, the acknowledged notes of each peer stay
+/// acknowledged.
 pub fn all_stay_acknowledged()
     ensures { OverRuns AllStayAcknowledged }
 {}
 
-/// Over any steps, taken or refused, stops and restarts among them: whatever a stop may leave of a peer's tape behind
-/// them is a tape, that of the first of its notes, every acknowledged one among them; and each debt that was
-/// acknowledged before them, or that the peer's history began from, is owed there, unless the peer has a final answer
-/// or a noted drop of it.
+/// After any steps, taken or refused, stops and restarts among them: whatever a stop may leave of a peer's tape is the
+/// tape of a prefix of its notes, with every acknowledged one in it; and each debt that was acknowledged before the
+/// steps, or that the peer's history began from, is owed there, unless the peer's notes have a final answer to it or a
+/// drop of it.
 pub fn all_are_recovered()
     ensures { OverRuns AllAreRecovered }
 {}
 
-/// Behind any steps, taken or refused, stops and restarts among them, a step is under way: at each moment of each of
+/// After any steps, taken or refused, stops and restarts among them, let a step be under way. At each moment of each of
 /// its calls on a disk, whether the call answers Ok, fails, or is met by a stop, whatever a stop may leave of a peer's
-/// tape is a tape, that of the first of its notes, every acknowledged one among them; and each debt that was
-/// acknowledged before the steps, or that the peer's history began from, is owed there, unless the peer has a final
-/// answer or a noted drop of it. So is whatever a stop may leave of the intake's tape, and each note that a line up to
-/// its mark made is acknowledged at its peer.
+/// tape is the tape of a prefix of its notes, with every acknowledged one in it; and each debt that was acknowledged
+/// before the steps, or that the peer's history began from, is owed there, unless the peer's notes have a final answer
+/// to it or a drop of it. The same holds of whatever a stop may leave of the intake's tape, and each note that a line
+/// up to its mark made is acknowledged at its peer.
 pub fn all_moments_are_recovered()
     ensures { AllMomentsAreRecovered }
 {}
 
 /// Those are all calls on a peer's disks: what has happened to the disks by the end of a step, taken or refused, had
-/// happened before it, or by the end of one of its events; or a stop came, and its choice leaves what it does of that.
+/// happened before the step, or by the end of one of its events; or a stop came, and left what its choice leaves of
+/// that.
 pub fn steps_call_no_other_disk()
     ensures { CallsNoOther }
 {}
 
-/// The debt that an acknowledged line made at a peer is owed over any steps from then on, unless the peer has a final
-/// answer or a noted drop of it: whatever a stop may leave of the peer's tape, behind the steps (`after`) or at each
-/// moment within the one behind them (`within`), is a tape that says so.
+/// A debt that an acknowledged line made at a peer is owed over any steps from then on, unless the peer's notes have a
+/// final answer to it or a drop of it: whatever a stop may leave of the peer's tape, after the steps (`after`) or at
+/// each moment within the step that follows them (`within`), is a tape that says so.
 pub fn acknowledged_lines_are_kept()
     ensures after { OverRuns LinesAreKept }
     ensures within { LinesAreKeptWithin }
 {}
 
 /// A line that is read is reported as `new` at exactly those peers that it names whose mark is below its number, and it
-/// changes nothing at any other. So is a line that is read again after a stop, under the number that it had.
+/// changes nothing at any other. The same holds of a line that is read again after a stop, under the number that it
+/// had.
 pub fn line_read_again()
     ensures { LinesAreReadAgain }
 {}
 
-/// Over any steps, taken or refused, each final answer among a peer's notes that was not there before them has its
-/// verdict: in a world that they pass, a connection to that peer has come to it, of this number and code; it is right
-/// by the transcript that has been made of that connection, where of the replies that came one is the final answer to
-/// a command about that very debt; and that connection took its debt over, by number, token and id, at one of them, a
-/// step `hand`, where that peer owed it, or before them.
+/// Over any steps, taken or refused, each final answer that is noted at a peer, and was not before them, has its
+/// verdict: in a world between the steps, a connection to that peer has come to the verdict, of this number and code.
+/// The verdict is right by that connection's transcript: one of the replies that came is the final answer to a command
+/// about that very debt. And the connection took the debt over, by number, token and id, in one of the steps, a `hand`,
+/// when that peer owed it, or before the steps.
 pub fn all_finals_are_right()
     ensures { AllFinalsAreRight }
 {

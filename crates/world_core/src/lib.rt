@@ -1,10 +1,10 @@
-//! Worlds: all peers of a feed, the intake's tape and the connections, as steps move them, and any stop and restart of
-//! them.
+//! Worlds: all peers of a feed, the intake's tape and the connections, as steps move them; and any stop (a crash) and
+//! restart of them.
 //!
 //! [`World::run`] takes a list of steps. It may touch nothing but memory: its tapes lie on disks in memory, which a
-//! stop may cut off before or within any call. The crates above use the contract of `run` alone: what has been gone
-//! through is a value of the definitions (`specs/Past.antt`), each step makes the next of it (`specs/Runs.antt`), and
-//! at each moment whatever a stop leaves holds every acknowledged note (`specs/Safe.antt`).
+//! stop may cut off before or within any call. The crates above use the contract of `run` alone: what a world has been
+//! through is a value of the definitions (`specs/Past.antt`), each step makes the next such value (`specs/Runs.antt`),
+//! and at each moment whatever a stop leaves holds every acknowledged note (`specs/Safe.antt`).
 #![tactic(auto)]
 
 mod connection;

@@ -1,4 +1,4 @@
-// What steps tell, as the lines of the script's format (docs/FORMATS.md).
+// What steps report, as the lines of the script's format (docs/FORMATS.md).
 ghost use Rattle.std.specs.Prelude.{◌≡◌, [], ◌∷◌, ◌++◌, decimal as digits_of, flat_map, map, IfOk};
 ghost use Rattle.std.specs.Prelude.{OnOk};
 ghost use Rattle.ledger_core.specs.Keys.{key_text};
@@ -28,7 +28,6 @@ impl Output {
     }
 }
 
-// What is reported, without its LF.
 fn add_output(out: &mut Vec<u8>, outputs: &Output) -> Result<(), AllocError>
     ensures { OnOk result (out.new.items ≡ out.old.items ++ output_text (said_of outputs.now)) }
 {
@@ -106,7 +105,6 @@ fn add_output(out: &mut Vec<u8>, outputs: &Output) -> Result<(), AllocError>
     }
 }
 
-// A number in decimal digits.
 fn add_number(out: &mut Vec<u8>, number: u64) -> Result<(), AllocError>
     ensures { OnOk result (out.new.items ≡ out.old.items ++ digits_of number) }
 {
@@ -121,7 +119,6 @@ fn add_connection(out: &mut Vec<u8>, connection: u64) -> Result<(), AllocError>
     add_number(out, connection)
 }
 
-// Each peer that a line names, and what came of it there.
 fn add_owed(out: &mut Vec<u8>, peers: &[OwedAt]) -> Result<(), AllocError>
     ensures { OnOk result (out.new.items ≡ out.old.items
         ++ flat_map owed_text (map (λ (at : OwedAt). (at.name, at.owed)) peers.now)) }
@@ -132,7 +129,6 @@ fn add_owed(out: &mut Vec<u8>, peers: &[OwedAt]) -> Result<(), AllocError>
     Ok(())
 }
 
-// A peer that a line names, and what came of it there.
 fn add_owed_at(out: &mut Vec<u8>, at: &OwedAt) -> Result<(), AllocError>
     ensures { OnOk result (out.new.items ≡ out.old.items ++ owed_text (at.now.name, at.now.owed)) }
 {
@@ -144,7 +140,6 @@ fn add_owed_at(out: &mut Vec<u8>, at: &OwedAt) -> Result<(), AllocError>
     }
 }
 
-// What became of the candidate that was to be handed over.
 fn add_handed(out: &mut Vec<u8>, handed: Handed) -> Result<(), AllocError>
     ensures { OnOk result (out.new.items ≡ out.old.items ++ handed_text handed) }
 {
@@ -159,7 +154,6 @@ fn add_handed(out: &mut Vec<u8>, handed: Handed) -> Result<(), AllocError>
     }
 }
 
-// What became of the debt of this key.
 fn add_settled(out: &mut Vec<u8>, key: Key, settled: Settled) -> Result<(), AllocError>
     ensures { OnOk result (out.new.items ≡ out.old.items ++ settled_text key settled) }
 {
@@ -194,7 +188,6 @@ fn add_pair(out: &mut Vec<u8>, word: &[u8], key: Key) -> Result<(), AllocError>
     Ok(())
 }
 
-// Why a connection closed.
 fn add_reason(out: &mut Vec<u8>, reason: Reason) -> Result<(), AllocError>
     ensures { OnOk result (out.new.items ≡ out.old.items ++ reason_text reason) }
 {
@@ -218,7 +211,7 @@ fn add_reason(out: &mut Vec<u8>, reason: Reason) -> Result<(), AllocError>
     }
 }
 
-// A space and each key, or ` -` where there is none.
+// A space and each key, or ` -` if there is none.
 fn add_keys(out: &mut Vec<u8>, keys: &[Key]) -> Result<(), AllocError>
     ensures { OnOk result (out.new.items ≡ out.old.items ++ keys_text keys.now) }
 {

@@ -1,4 +1,4 @@
-// Worlds as they are made: their tapes are opened.
+// How a world is made: its tapes are opened.
 ghost use Rattle.std.specs.Prelude.{◌≡◌, [], IfErr, IfOk, map};
 ghost use Rattle.std.specs.List.{AllZip};
 ghost use Rattle.ledger_core.specs.State.{start};
@@ -25,11 +25,11 @@ impl World {
     ghost use Rattle.world_core.specs.Making.{Begins, IsMakeFault};
     ghost use Rattle.world_core.specs.Stands.{WasNotMade};
 
-    /// A world of these peers, in byte order of their names. Its tapes were opened on empty disks in memory: it runs,
-    /// nothing was noted, there is no connection, no stop is armed, and the moment is 0.
+    /// Makes a world of these peers, in byte order of their names. Its tapes were opened on empty disks in memory: the
+    /// world runs, nothing was noted, there is no connection, no stop is armed, and the moment is 0.
     ///
     /// # Errors
-    /// Step 0 and no lines: `NoMemory`, or `Tape(Disk)` where a disk in memory was refused it.
+    /// Step 0 and no lines: `NoMemory`, or `Tape(Disk)` if memory was refused to a disk in memory.
     pub fn new(alloc: Global, peers: Vec<PeerConf>) -> Result<World, WorldFault>
         requires distinct { IsDistinct bytes_eq (map (λ (conf : PeerConf). conf.name) peers.items) }
         ensures begins { IfOk result (Begins peers.items) }
@@ -48,7 +48,6 @@ impl World {
         }
     }
 
-    // A world of these peers, or why there is none.
     fn make(alloc: Global, peers: Vec<PeerConf>) -> Result<World, Fault>
         requires distinct { IsDistinct bytes_eq (map (λ (conf : PeerConf). conf.name) peers.items) }
         ensures begins { IfOk result (Begins peers.items) }
@@ -62,16 +61,16 @@ impl World {
         }
     }
 
-    /// A world of these peers, in byte order of their names, that begins from their tapes: of each the first disk in
-    /// memory holds the octets that stand beside its settings, and the second is empty. It is as one after a restart:
-    /// it runs, every number that a tape owes is ready, nothing was noted since, there is no connection, no stop is
-    /// armed, and the moment is 0. The intake's tape was opened on empty disks: lines are numbered from 1 on, and a
+    /// Makes a world of these peers, in byte order of their names, that begins from their tapes: for each peer, the
+    /// first disk in memory holds the octets given with its settings, and the second is empty. The world is as after a
+    /// restart: it runs, every debt that a tape owes is ready, nothing was noted since, there is no connection, no stop
+    /// is armed, and the moment is 0. The intake's tape was opened on empty disks: lines are numbered from 1 on, and a
     /// line whose number a peer's tape has noted is not owed to that peer again.
     ///
     /// # Errors
-    /// The tapes are opened in byte order of the peers' names, and the first that is refused is reported: `Damaged`
-    /// where the octets are no tape, `Disk` where a disk in memory was refused memory. `NoMemory` where else it was
-    /// refused.
+    /// The tapes are opened in byte order of the peers' names, and the first that is refused is reported: `Damaged` if
+    /// the octets are no tape, `Disk` if memory was refused to a disk in memory. `NoMemory` if memory was refused
+    /// elsewhere.
     pub fn with_tapes(
         alloc: Global,
         mut peers: Vec<(PeerConf, Vec<u8>)>,
@@ -103,7 +102,7 @@ impl World {
     }
 }
 
-// These peers, none with any octets.
+// These peers, each with no octets.
 fn with_no_octets(
     alloc: Global,
     confs: Vec<PeerConf>,
@@ -117,7 +116,6 @@ fn with_no_octets(
     Ok(given)
 }
 
-// Opens the tapes of these peers in order, until one is refused.
 fn open_each(
     alloc: Global,
     given: Vec<(PeerConf, Vec<u8>)>,
@@ -134,7 +132,7 @@ fn open_each(
     Ok(peers)
 }
 
-// Opens the intake's tape on empty disks. Nothing but want of memory refuses it: a disk in memory fails for no more.
+// Opens the intake's tape on empty disks. Only want of memory refuses it: a disk in memory fails for nothing else.
 fn open_intake(
     alloc: Global,
     rank: usize,

@@ -1,4 +1,4 @@
-// What steps tell.
+// What steps report.
 use conn_core::Reason;
 use funnel::{LineFault, PeerName};
 use ledger_core::Key;
@@ -9,7 +9,7 @@ use peer_queue::{Owed, Settled};
 pub struct OwedAt {
     /// The peer.
     pub name: PeerName,
-    /// Whether it is owed anew.
+    /// Whether it is new there.
     pub owed: Owed,
 }
 
@@ -26,15 +26,15 @@ pub enum Handed {
     Closed,
 }
 
-/// One thing that a step tells.
+/// One thing that a step reports.
 #[derive(Debug, Drop)]
 pub enum Output {
-    /// A good line has this number, and this came of it at the peers that it names, in byte order of their names.
+    /// A good line has this number; what came of it at the peers that it names, in byte order of their names.
     Owed {
         number: u64,
         peers: Vec<OwedAt>,
     },
-    /// A line that is not good has this number.
+    /// A malformed line has this number.
     Bad {
         number: u64,
         fault: LineFault,
@@ -48,12 +48,12 @@ pub enum Output {
         connection: u64,
         name: PeerName,
     },
-    /// What became of the candidate that was to be handed.
+    /// What became of the candidate that was to be handed over.
     Handed {
         connection: u64,
         handed: Handed,
     },
-    /// This became of the debt of this key, which the connection had.
+    /// What became of the debt of this key, which the connection had.
     Settled {
         connection: u64,
         key: Key,
@@ -79,12 +79,12 @@ pub enum Output {
         name: PeerName,
         keys: Vec<Key>,
     },
-    /// What a peer is owed was written anew, in this generation.
+    /// The tape of a peer was rewritten with what the peer is owed, as this generation.
     Rotated {
         name: PeerName,
         generation: u64,
     },
-    /// A backlog file of a peer was taken in as this source, and so many of its lines are new.
+    /// A backlog file of a peer was imported as this source, and this many of its lines are new.
     Imported {
         name: PeerName,
         source: u32,
@@ -92,7 +92,7 @@ pub enum Output {
     },
     /// All has stopped.
     Stopped,
-    /// A peer's tape was opened: its mark, and the keys that are owed, rising.
+    /// A peer's tape was opened: its mark, and the keys of what it owes, in rising order.
     Mark {
         name: PeerName,
         mark: u64,

@@ -31,7 +31,7 @@ pub(crate) struct Peer<D: Disk> {
 pub(crate) struct StoppedPeer {
     // Its name and settings.
     pub(crate) conf: PeerConf,
-    // What was left of the first disk of its tape, and of the second.
+    // What was left of the first and of the second disk of its tape.
     pub(crate) disks: (StopDisk, StopDisk),
 }
 
@@ -42,14 +42,13 @@ impl<D: Disk> Peer<D> {
     ghost use Rattle.world_core.specs.Stands.{RotatedPeer, ShedPeer, SpilledPeer, UnclosedPeer, UnflushedPeer};
     ghost use Rattle.world_core.specs.Stands.{UnrotatedPeer, UnshedPeer};
 
-    // Whether this is its name.
     pub(crate) fn has_name(&self, name: &PeerName) -> bool
         ensures { result ≡ bytes_eq self.now.conf.name name.now }
     {
         self.conf.name.bytes() == name.bytes()
     }
 
-    // Owes a line that names it, and tells what came of it.
+    // Owes a line that names it, and returns what came of it.
     pub(crate) fn owe(&mut self, number: u64, token: &Token, id: &MsgId) -> Result<Owed, Fault>
         ensures ok { (past : PeerPast) → PeerStands past self.old → IfOk result (λ owed.
             OwedTo (owed_as number) (λ peer. number) token.now id.now past owed self.new) }
@@ -64,7 +63,7 @@ impl<D: Disk> Peer<D> {
         }
     }
 
-    // Owes a line of a backlog file of its, and tells what came of it.
+    // Owes a line of one of its backlog files, and returns what came of it.
     pub(crate) fn import(&mut self, number: u64, token: &Token, id: &MsgId) -> Result<Owed, Fault>
         ensures ok { (past : PeerPast) → PeerStands past self.old → IfOk result (λ owed.
             OwedTo (imported_as number) (import_key number) token.now id.now past owed self.new) }
@@ -79,7 +78,7 @@ impl<D: Disk> Peer<D> {
         }
     }
 
-    // Closes the source that is open, and gives it.
+    // Closes the source that is open, and returns it.
     pub(crate) fn close(&mut self) -> Result<u32, Fault>
         ensures ok { (past : PeerPast) → PeerStands past self.old
             → IfOk result (λ source. ClosedPeer past source self.new) }
@@ -92,7 +91,7 @@ impl<D: Disk> Peer<D> {
         }
     }
 
-    // Flushes its station while a backlog file of its is taken in.
+    // Flushes its station during an import; this is not the flush since a number was kept.
     pub(crate) fn spill(&mut self) -> Result<(), Fault>
         ensures ok { (past : PeerPast) → PeerStands past self.old
             → OnOk result (SpilledPeer past self.new) }
@@ -105,7 +104,6 @@ impl<D: Disk> Peer<D> {
         }
     }
 
-    // Flushes its station.
     pub(crate) fn flush(&mut self) -> Result<(), Fault>
         ensures ok { (past : PeerPast) → PeerStands past self.old
             → OnOk result (FlushedPeer past self.new) }
@@ -117,7 +115,7 @@ impl<D: Disk> Peer<D> {
         Ok(())
     }
 
-    // Writes what it is owed anew, and tells the generation.
+    // Rewrites its tape with what it is owed, and returns the generation.
     pub(crate) fn rotate(&mut self) -> Result<u64, Fault>
         ensures ok { (past : PeerPast) → PeerStands past self.old
             → IfOk result (λ generation. RotatedPeer past generation self.new) }
@@ -130,7 +128,7 @@ impl<D: Disk> Peer<D> {
         }
     }
 
-    // Drops what exceeds its backlog limit, and tells which keys.
+    // Drops what exceeds its backlog limit, and returns the keys.
     pub(crate) fn shed(&mut self) -> Result<Vec<Key>, Fault>
         ensures ok { (past : PeerPast) → PeerStands past self.old
             → IfOk result (λ keys. ShedPeer past keys.items self.new) }
@@ -149,7 +147,7 @@ impl StoppedPeer {
     ghost use Rattle.world_core.specs.Past.{PeerPast};
     ghost use Rattle.world_core.specs.Stands.{OpenedAs, RefusedOpen, StoppedStands};
 
-    // Opens its station on what a stop left of its disks. A refused one is handed back.
+    // Opens its station on what a stop left of its disks. If that is refused, the peer is handed back.
     pub(crate) fn open(self, alloc: Global) -> Result<Peer<StopDisk>, (StoppedPeer, Fault)>
         ensures ok { (past : PeerPast) → StoppedStands past self
             → IfOk result (λ peer. OpenedAs past peer) }
@@ -176,7 +174,7 @@ impl StoppedPeer {
 impl Peer<StopDisk> {
     ghost use Rattle.world_core.specs.Given.{OpensGiven, RefusesPeer};
 
-    // Opens the station of a peer at this rank, the first disk of whose tape holds these octets, and the second none.
+    // Opens the station of a peer at this rank. The first disk of its tape holds these octets, the second is empty.
     pub(crate) fn open_given(
         alloc: Global,
         given: (PeerConf, Vec<u8>),
@@ -207,7 +205,7 @@ impl Peer<StopDisk> {
     }
 }
 
-// The limits of the backlog of a peer of these settings.
+// The limits of the backlog of a peer with these settings.
 fn limits_of(conf: &PeerConf) -> Limits
     ensures { result ≡ limits_of conf.now }
 {

@@ -1,4 +1,4 @@
-// What a run of steps tells.
+// What a run of steps reports.
 use crate::output::Output;
 use funnel::PeerName;
 use ledger_core::Totals;
@@ -15,8 +15,8 @@ pub struct PeerTotals {
 /// What a run of steps reported.
 #[derive(Debug, Drop)]
 pub struct Report {
-    /// What each step reported, a value for each line.
+    /// What each step reported, one value for each line.
     pub lines: Vec<Vec<Output>>,
-    /// Each peer's counts, in byte order of their names; none while all is stopped.
+    /// Each peer's counts, in byte order of their names; empty while all is stopped.
     pub totals: Vec<PeerTotals>,
 }

@@ -1,4 +1,4 @@
-// The opening of all tapes again. Where one is refused all stops again.
+// How all tapes are opened again. If one is refused, all stops again.
 ghost use Rattle.std.specs.Prelude.{OnOk, false, ◌≡◌, ◌∷◌, ◌+◌, ◌≤◌, ℕ, [], Some, IfErr, IfOk};
 ghost use Rattle.std.specs.Prelude.{List, map, vec_capacity, vec_len};
 ghost use Rattle.world_core.specs.Halting.{TapesStop};
@@ -40,7 +40,7 @@ impl World {
     ghost use Rattle.world_core.specs.Turn.{Awaits, Took, WasNotTaken};
     ghost use Rattle.world_core.specs.declared.step.Step.TheVariants.{Restart};
 
-    // Opens all tapes, the peers' in byte order of their names and then the intake's, and tells each peer's mark.
+    // Opens all tapes, the peers' in byte order of their names and then the intake's, and reports each peer's mark.
     pub(crate) fn restart(&mut self, out: &mut Vec<Output>) -> Result<(), Fault>
         requires { out.old.items ≡ [] }
         ensures ok { (life : Life) → WorldStands self.old life
@@ -66,8 +66,8 @@ impl World {
         }
     }
 
-    // These stations, which were opened, run from now on, and each peer's mark is reported. Where there is no memory
-    // for that all stops again.
+    // These stations, which were opened, run from now on, and each peer's mark is reported. If there is no memory for
+    // the report, all stops again.
     fn run_on(
         &mut self,
         stations: Stations<StopDisk>,
@@ -99,7 +99,7 @@ struct Opening {
     alloc: Global,
     // Those that were opened, until one is refused.
     opened: Vec<Peer<StopDisk>>,
-    // Once one was refused, those before it, which have stopped again, it, and those behind it.
+    // Once one was refused: those before it, which have stopped again, it, and those after it.
     stopped: Vec<StoppedPeer>,
     refused: Option<Halt>,
 }
@@ -153,7 +153,7 @@ impl Opening {
         self.refused = Some(halt);
     }
 
-    // Opens the intake's tape behind all peers.
+    // Opens the intake's tape, after those of all peers.
     fn end(self, intake: (StopDisk, StopDisk)) -> Result<Stations<StopDisk>, Closed>
         requires { HasRoomFor 0 self }
         ensures ok { (past : Past) → Tries past self []
@@ -196,7 +196,7 @@ impl Opening {
     }
 }
 
-// Opens the tapes of these peers in order, and then the intake's. Where one is refused all stops again.
+// Opens the tapes of these peers in order, and then the intake's. If one is refused, all stops again.
 pub(crate) fn open_all(
     alloc: Global,
     peers: Vec<StoppedPeer>,
@@ -222,7 +222,7 @@ pub(crate) fn open_all(
     opening.end(intake)
 }
 
-// Room for so many peers, open or stopped.
+// Room for this many peers, open or stopped.
 pub(crate) fn rooms_for(alloc: Global, count: usize) -> Result<Rooms, AllocError>
     ensures opened { IfOk result
         (λ rooms. (vec_len rooms.opened ≡ 0) × (count ≤ vec_capacity rooms.opened)) }
@@ -234,7 +234,6 @@ pub(crate) fn rooms_for(alloc: Global, count: usize) -> Result<Rooms, AllocError
     Ok(Rooms { opened, stopped })
 }
 
-// What is reported of these peers, whose tapes were opened.
 fn tell_marks(alloc: Global, peers: &[Peer<StopDisk>]) -> Result<Vec<Output>, AllocError>
     ensures { IfOk result (λ outputs. map said_of outputs.items ≡ map opened_said peers.now) }
 {
@@ -245,7 +244,6 @@ fn tell_marks(alloc: Global, peers: &[Peer<StopDisk>]) -> Result<Vec<Output>, Al
     Ok(outputs)
 }
 
-// What is reported of a peer whose tape was opened.
 fn mark_of(peer: &Peer<StopDisk>) -> Result<Output, AllocError>
     ensures { IfOk result (λ outputs. said_of outputs ≡ opened_said peer.now) }
 {

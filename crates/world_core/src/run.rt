@@ -32,14 +32,14 @@ impl World {
     ghost use Rattle.world_core.specs.Output.{said_by};
     ghost use Rattle.world_core.specs.Turn.{Took, WasNotTaken, names_at};
 
-    /// Takes these steps, one after another, up to the first that is refused, and reports what each reported, and each
+    /// Takes these steps, one after another, up to the first that is refused, and returns what each reported, and each
     /// peer's counts.
     ///
-    /// Steps that were taken stay taken where one behind them is refused: the world then stands where that one left it.
+    /// Steps that were taken stay taken if a later one is refused: the world then is what the refused step left.
     ///
     /// # Errors
-    /// The number of the step that was refused, from 1 on, its fault, and what each step before it reported. Where
-    /// memory is refused for the report itself it is the first step that is refused, and none was taken.
+    /// The number of the step that was refused, from 1 on, its fault, and what each step before it reported. If memory
+    /// is refused for the report itself, the first step is the one refused, and none was taken.
     pub fn run(&mut self, steps: &[Step]) -> Result<Report, WorldFault>
         ensures reports { IfOk result
             (λ report. Reports steps.now self.old (said_by report.lines.items)
@@ -69,7 +69,7 @@ impl World {
         Ok(Report { lines, totals })
     }
 
-    // Room for what so many steps tell, and for each peer's counts.
+    // Room for what this many steps report, and for each peer's counts.
     fn room_for(&self, count: usize) -> Result<(Vec<Vec<Output>>, Vec<PeerTotals>), AllocError>
         ensures empty { IfOk result (λ room. room.0.items ≡ []) }
         ensures room { IfOk result (λ room. count ≤ vec_capacity room.0) }
@@ -84,7 +84,7 @@ impl World {
         Ok((lines, totals))
     }
 
-    // Each peer's counts, for which there is room, or none while all is stopped.
+    // Each peer's counts, for which there is room; empty while all is stopped.
     fn counts(&self, mut totals: Vec<PeerTotals>) -> Vec<PeerTotals>
         ensures { (life : Life) → WorldStands self.entry.now life
             → map (λ (peer : PeerTotals). peer.name) totals.items ≡ names_of life.past.peers
@@ -99,7 +99,7 @@ impl World {
         }
     }
 
-    // Takes one step: adds what it tells, or tells why it was refused.
+    // Takes one step: adds what it reports, or returns why it was refused.
     fn take(&mut self, step: &Step, out: &mut Vec<Output>) -> Result<(), Fault>
         requires { out.old.items ≡ [] }
         ensures ok { (life : Life) → WorldStands self.old life
@@ -128,7 +128,6 @@ impl World {
     }
 }
 
-// The names of these peers, and no counts.
 fn names_of(alloc: Global, peers: &[Peer<StopDisk>]) -> Result<Vec<PeerTotals>, AllocError>
     ensures { IfOk result (λ totals. map (λ (peer : PeerTotals). peer.name) totals.items
         ≡ map (λ peer. peer.conf.name) peers.now) }
@@ -141,7 +140,6 @@ fn names_of(alloc: Global, peers: &[Peer<StopDisk>]) -> Result<Vec<PeerTotals>, 
     Ok(totals)
 }
 
-// The names of these peers, and no counts.
 fn stopped_names(alloc: Global, peers: &[StoppedPeer]) -> Result<Vec<PeerTotals>, AllocError>
     ensures { IfOk result (λ totals. map (λ (peer : PeerTotals). peer.name) totals.items
         ≡ map (λ (peer : StoppedPeer). peer.conf.name) peers.now) }
@@ -154,7 +152,7 @@ fn stopped_names(alloc: Global, peers: &[StoppedPeer]) -> Result<Vec<PeerTotals>
     Ok(totals)
 }
 
-// Puts the counts of each of these peers behind its name.
+// Adds the counts of each of these peers to its name.
 fn count_each(totals: &mut [PeerTotals], peers: &[Peer<StopDisk>])
     ensures { map (λ (peer : PeerTotals). peer.name) totals.old
         ≡ map (λ peer. peer.conf.name) peers.now

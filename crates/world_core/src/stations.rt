@@ -1,4 +1,4 @@
-// The stations of all peers and the intake's tape, over any disks: the steps on tapes, which know no stop.
+// The stations of all peers and the intake's tape, over any disks: the steps on tapes, which know nothing of stops.
 ghost use Rattle.std.specs.Prelude.{◌≡◌, ◌+◌, ◌<◌, ◌^◌, ℕ, map, position};
 ghost use Rattle.std.specs.Prelude.{IfErr, IfNone, IfOk, IfSome, OnErr, OnOk, vec_len};
 ghost use Rattle.std.specs.List.{list_all};
@@ -32,7 +32,7 @@ impl<D: Disk> Stations<D> {
     ghost use Rattle.world_core.specs.Steps.{IsSealable, begun_at};
     ghost use Rattle.world_core.specs.Stands.{DidOne, FailedOne, OwedOne, Stands};
 
-    // Owes a line to the peer at this rank, which it names, and tells what came of it.
+    // Owes a line to the peer at this rank, which it names, and returns what came of it.
     pub(crate) fn owe_at(&mut self, rank: usize, token: &Token, id: &MsgId) -> Result<Owed, Fault>
         requires within { rank < vec_len self.old.peers }
         requires numbered { self.old.last + 1 < 2 ^ 64 }
@@ -48,7 +48,6 @@ impl<D: Disk> Stations<D> {
         peer.owe(number, token, id)
     }
 
-    // Flushes the peer at this rank.
     pub(crate) fn part_at(&mut self, rank: usize) -> Result<(), Fault>
         requires { rank < vec_len self.old.peers }
         ensures ok { (past : Past) → Stands self.old past
@@ -62,7 +61,7 @@ impl<D: Disk> Stations<D> {
         peer.flush()
     }
 
-    // Notes a number that may be sealed, where it is above the intake's mark.
+    // Notes a number that may be sealed, if it is above the intake's mark.
     pub(crate) fn see(&mut self, number: u64) -> Result<(), Fault>
         ensures ok { (past : Past) → Stands self.old past → IsSealable past number
             → OnOk result (DidOne past (Sees number) self.new) }
@@ -78,7 +77,6 @@ impl<D: Disk> Stations<D> {
         Ok(())
     }
 
-    // Flushes the intake's tape.
     pub(crate) fn acknowledge(&mut self) -> Result<(), Fault>
         ensures ok { (past : Past) → Stands self.old past
             → OnOk result (DidOne past Acknowledges self.new) }
@@ -105,7 +103,6 @@ impl<D: Disk> Stations<D> {
         }
     }
 
-    // Keeps the last line's number.
     pub(crate) fn begin(&mut self)
         ensures { (past : Past) → Stands self.old past → Stands self.new (begun_at past) }
     {
@@ -122,14 +119,12 @@ impl<D: Disk> Stations<D> {
     }
 }
 
-// Whether each peer was flushed since a number was kept.
 fn all_parted<D: Disk>(peers: &[Peer<D>]) -> bool
     ensures { result ≡ list_all (λ peer. peer.parted) peers.now }
 {
     peers.iter().all(|peer| peer.parted)
 }
 
-// From now on no peer was flushed since a number was kept.
 fn unpart_all<D: Disk>(peers: &mut [Peer<D>])
     ensures { peers.new ≡ map unparted peers.old }
 {

@@ -10,9 +10,9 @@ use std::rc::Rc;
 /// A stop that waits to be met.
 #[derive(Clone, Copy, Debug, PartialEq, Eq)]
 pub struct Stop {
-    /// The rank of the tape at whose disks it comes: a peer's among the peers, and behind them the intake's.
+    /// The rank of the tape at whose disks it comes: a peer's rank; the intake's comes after all peers'.
     pub rank: usize,
-    /// How many counted calls of that disk there are up to it, the call that it stops among them.
+    /// How many counted calls of that tape's disks there are up to and including the one that it stops.
     pub calls: u64,
     /// What it leaves of each disk.
     pub choice: Choice,
@@ -25,7 +25,7 @@ pub enum Trigger {
     Idle,
     /// This one is armed.
     Armed(Stop),
-    /// A stop was met, which leaves this of each disk. No call of any disk completes.
+    /// A stop was met, and leaves this of each disk. No call of any disk completes.
     Met(Choice),
 }
 
@@ -34,16 +34,16 @@ pub enum Trigger {
 enum Fate {
     // It completes.
     Completes,
-    // It is the call that is stopped.
+    // It is the call that the stop comes at.
     Stops(Choice),
-    // All stopped before.
+    // A stop was met before it.
     Fails,
 }
 
 impl Trigger {
     ghost use Rattle.world_core.specs.Trigger.{fate_of, counted, has_met, settled};
 
-    // What becomes of the next call of this peer's disk.
+    // What becomes of the next call on a disk of this rank.
     fn fate(self, rank: usize) -> Fate
         ensures { result ≡ fate_of self rank }
     {
@@ -56,7 +56,7 @@ impl Trigger {
         }
     }
 
-    // What waits behind a call of this peer's disk that completes.
+    // What waits after a call on a disk of this rank that completes.
     fn count(self, rank: usize) -> Trigger
         ensures { result ≡ counted self rank }
     {
@@ -70,14 +70,14 @@ impl Trigger {
         }
     }
 
-    // What waits behind the next call of this peer's disk, and what becomes of that call.
+    // What waits after the next call on a disk of this rank, and what becomes of that call.
     fn step(self, rank: usize) -> (Trigger, Fate)
         ensures { result ≡ (counted self rank, fate_of self rank) }
     {
         (self.count(rank), self.fate(rank))
     }
 
-    // Whether a stop was met, so that all has stopped.
+    // Whether a stop was met.
     fn has_met(self) -> bool
         ensures { result ≡ has_met self }
     {
@@ -87,7 +87,7 @@ impl Trigger {
         }
     }
 
-    /// What waits behind a step, and what a stop that was met in it leaves: a stop that was met is armed no more.
+    /// What waits after a step, and what a stop met in it leaves: once met, a stop is no longer armed.
     pub fn settle(self) -> (Trigger, Option<Choice>)
         ensures { result ≡ settled self }
     {
@@ -98,16 +98,15 @@ impl Trigger {
     }
 }
 
-/// A disk in memory whose calls of `write_at`, `cut` and `sync` are counted while a stop is armed at its peer. The
-/// call that is stopped does not complete: a write or a cut reaches the disk beneath, and no sync follows it; a
-/// sync does not reach it. That call and each later one, a read too, tells a fault.
+/// A disk in memory whose calls of `write_at`, `cut` and `sync` are counted while a stop is armed at its tape. The call
+/// that is stopped does not complete: a write or a cut reaches the disk beneath, and no sync follows it; a sync does
+/// not reach it. That call and each later one, also a read, fails.
 #[derive(Drop)]
 pub struct StopDisk {
     disk: MemDisk,
-    // The rank of its tape.
     rank: usize,
     trigger: Rc<Cell<Trigger>>,
-    // How many faults it told by itself.
+    // How many faults it reported by itself.
     faults: u64,
 }
 
@@ -135,7 +134,7 @@ impl StopDisk {
         }
     }
 
-    /// A disk that a stop leaves of this one by a choice, of the same tape. It has told no fault.
+    /// A new disk of the same tape, with what a stop by this choice leaves of this one. It has reported no fault.
     ///
     /// # Errors
     /// Memory was refused.
@@ -151,8 +150,8 @@ impl StopDisk {
         Ok(StopDisk::new(disk, self.rank, trigger))
     }
 
-    // Counts a call, and tells what becomes of it. No contract sees into the cell, so that all but the reading and the
-    // writing of it is `step`.
+    // Counts a call, and returns what becomes of it. No contract sees into the cell, so `step` decides all, and this
+    // function only reads and writes the cell.
     fn count(&self) -> Fate {
         let (waits, fate) = self.trigger.get().step(self.rank);
         self.trigger.set(waits);
@@ -168,7 +167,7 @@ impl StopDisk {
         self.refuse()
     }
 
-    // Tells a fault of its own.
+    // Fails by itself.
     fn refuse(&mut self) -> DiskFault
         ensures disk { beneath self.new ≡ beneath self.old }
         ensures faults { own_faults self.new ≡ min (own_faults self.old + 1) (2 ^ 64 - 1) }
@@ -177,7 +176,6 @@ impl StopDisk {
         DiskFault
     }
 
-    // A write of this fate.
     fn write_as(&mut self, fate: Fate, at: u64, from: &[u8]) -> Result<(), DiskFault>
         requires { at ≤ length (held (beneath self.old)) }
         ensures log { Writes at from.now (happened self.old) result (happened self.new) }
@@ -198,7 +196,6 @@ impl StopDisk {
         }
     }
 
-    // A cut of this fate.
     fn cut_as(&mut self, fate: Fate, len: u64) -> Result<(), DiskFault>
         requires { len ≤ length (held (beneath self.old)) }
         ensures log { Cuts len (happened self.old) result (happened self.new) }
@@ -219,7 +216,6 @@ impl StopDisk {
         }
     }
 
-    // A sync of this fate.
     fn sync_as(&mut self, fate: Fate) -> Result<(), DiskFault>
         ensures log { Syncs (happened self.old) result (happened self.new) }
         ensures cause { CountsFaults (all_faults self.old) (all_faults self.new) result }
@@ -236,13 +232,12 @@ impl StopDisk {
         }
     }
 
-    // Whether all has stopped.
     fn has_stopped(&self) -> bool {
         self.trigger.get().has_met()
     }
 }
 
-/// Honest. What has happened to it is what has happened to the disk beneath.
+/// Honest: what has happened to it is what has happened to the disk beneath.
 impl Disk for StopDisk {
     ghost use Rattle.disk_model.specs.InMemory.{events, held, faults_in};
     ghost use Rattle.disk_model.specs.MemoryLaws.{content_among_images};

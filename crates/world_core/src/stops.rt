@@ -1,4 +1,4 @@
-// Stops of a world, at rest or met, and its restart.
+// Stops of a world, at rest or met in a step, and its restart.
 ghost use Rattle.std.specs.Prelude.{◌≡◌, ◌↔◌, ◌<◌, ℕ, [], true, false, length, List, Option};
 ghost use Rattle.std.specs.Prelude.{position, IfErr, IfOk, OnErr, OnOk};
 ghost use Rattle.std.specs.Str.{bytes_eq};
@@ -44,7 +44,7 @@ impl World {
         self.arm(peer, call, choice)
     }
 
-    // All stops at rest: what pends is gone, disks stay as they are, connections end, and no stop is armed.
+    // All stops at rest: pending notes are gone, disks stay as they are, connections end, and no stop is armed.
     fn rest(&mut self, out: &mut Vec<Output>) -> Result<(), Fault>
         requires { out.old.items ≡ [] }
         ensures ok { (life : Life) → WorldStands self.old life
@@ -61,8 +61,7 @@ impl World {
         Ok(())
     }
 
-    // What a refused step leaves: where a disk failed at the tape at which a stop is armed, and that was met, all
-    // stops.
+    // What a refused step leaves: if the armed stop was met, and a disk failed at the tape that it names, all stops.
     pub(crate) fn settle(&mut self, halt: Halt, out: &mut Vec<Output>) -> Result<(), Fault>
         requires { out.old.items ≡ [] }
         ensures ok { (step : Step) (life : Life) → WasHalted step life halt self.old
@@ -81,8 +80,8 @@ impl World {
         self.strike(halt.fault, arming.choice, out)
     }
 
-    // All stops, and a choice leaves of all disks what it does. Where there is no memory for that all stops as at
-    // rest, and where there is none to stop either, the step is refused as it was.
+    // All stops, and each disk keeps what the choice leaves of it. If there is no memory for that, all stops as at
+    // rest; if there is none for that either, the step is refused as it was.
     fn strike(&mut self, refused: Fault, choice: Choice, out: &mut Vec<Output>) -> Result<(), Fault>
         requires { out.old.items ≡ [] }
         ensures ok { (life now : Life) (under_way : Past) → GoesOn life under_way now
@@ -101,7 +100,7 @@ impl World {
         Ok(())
     }
 
-    // All stations stop at rest, where they run, and no stop is armed. Refused memory, all is as it was.
+    // All stations stop at rest, if they run, and no stop is armed. If memory is refused, nothing has changed.
     fn halt(&mut self) -> Result<(), AllocError>
         ensures ok { (life now : Life) (under_way : Past) → GoesOn life under_way now
             → WorldStands self.old now
@@ -126,7 +125,7 @@ impl World {
         Ok(())
     }
 
-    // The choice leaves of all disks what it does, where all has stopped. Refused memory, all is as it was.
+    // Each disk keeps what the choice leaves of it, once all has stopped. If memory is refused, nothing has changed.
     fn leave(&mut self, choice: Choice) -> Result<(), AllocError>
         ensures ok { (life : Life) → WorldStands self.old life → life.running ≡ false
             → OnOk result (WorldStands self.new
@@ -145,14 +144,14 @@ impl World {
         Ok(())
     }
 
-    // No tapes, in the place of those that are moved.
+    // An empty stage, in place of one that is moved out.
     pub(crate) fn no_stage(&self) -> Result<Stage, AllocError> {
         let first = StopDisk::new(MemDisk::new(self.alloc), 0, self.trigger.clone()?);
         let second = StopDisk::new(MemDisk::new(self.alloc), 0, self.trigger.clone()?);
         Ok(Stage::Stopped(Vec::new(self.alloc), (first, second)))
     }
 
-    // Arms a stop in the place of any that is.
+    // Arms a stop, in place of any that is armed.
     fn arm(&mut self, peer: &Option<PeerName>, call: u64, choice: Choice) -> Result<(), Fault>
         requires { 0 < call }
         ensures ok { (life : Life) → WorldStands self.old life
@@ -171,7 +170,6 @@ impl World {
         Ok(())
     }
 
-    // Arms a stop at the tape of the peer at this rank, or at the intake's.
     fn arm_at(&mut self, rank: Option<usize>, call: u64, choice: Choice)
         requires { 0 < call }
         ensures { (life : Life) → (peer : Option (List ℕ)) → WorldStands self.old life
@@ -182,7 +180,6 @@ impl World {
         self.armed = Some(Arming { rank, call, choice });
     }
 
-    // How many peers there are.
     fn count(&self) -> usize
         ensures { (life : Life) → WorldStands self.entry.now life
             → result ≡ length life.past.peers }
@@ -193,7 +190,6 @@ impl World {
         }
     }
 
-    // The rank of the first peer of this name.
     fn rank_of(&self, name: &PeerName) -> Option<usize>
         ensures { (life : Life) → WorldStands self.entry.now life
             → result ≡ rank_of life.past name.now }
@@ -216,21 +212,19 @@ fn trigger_of(rank: Option<usize>, last: usize, call: u64, choice: Choice) -> Tr
     })
 }
 
-// Whether it was the armed stop that was met in a step that was refused so.
+// Whether the armed stop was met in a step that was refused like this.
 fn is_met(met: Option<Choice>, armed: Arming, halt: Halt) -> bool
     ensures { result ≡ true ↔ IsMet met armed halt }
 {
     met.is_some() && is_disk(halt.fault) && is_one_tape(armed.rank, halt.rank)
 }
 
-// Whether a disk failed.
 fn is_disk(fault: Fault) -> bool
     ensures { result ≡ true ↔ fault ≡ Fault.Tape TapeFault.Disk }
 {
     matches!(fault, Fault::Tape(TapeFault::Disk))
 }
 
-// Whether these are the places of one tape.
 fn is_one_tape(one: Option<usize>, other: Option<usize>) -> bool
     ensures { result ≡ true ↔ one ≡ other }
 {
@@ -241,7 +235,6 @@ fn is_one_tape(one: Option<usize>, other: Option<usize>) -> bool
     }
 }
 
-// The rank of the first of these peers of this name.
 fn rank_among(peers: &[StoppedPeer], name: &PeerName) -> Option<usize>
     ensures { result ≡ position (λ peer. bytes_eq peer.conf.name name.now) peers.now }
 {

@@ -1,4 +1,4 @@
-// The steps on tapes: each is a list of events, and the room for what it tells is made first.
+// The steps on tapes: each is a list of events, and room for what it reports is made first.
 ghost use Rattle.std.specs.Prelude.{◌≡◌, ◌≢◌, ◌⊎◌, ◌+◌, ◌<◌, ◌≤◌, ◌^◌, ℕ, []};
 ghost use Rattle.std.specs.Prelude.{List, length, IfErr, IfOk, MatchOption, OnOk, vec_capacity, vec_len};
 ghost use Rattle.world_core.specs.declared.fault.Fault.TheVariants.{NoMemory};
@@ -52,7 +52,7 @@ impl<D: Disk> Stations<D> {
     /// Flushes the station of this peer.
     ///
     /// # Errors
-    /// `NoPeer` where none has this name; the station's.
+    /// `NoPeer` if no peer has this name; the station's.
     pub(crate) fn part(&mut self, name: &PeerName) -> Result<Vec<Output>, Fault>
         ensures ok { (past : Past) → Stands self.old past
             → IfOk result (λ outputs. Took (TakesPart name.now) past outputs.items self.new) }
@@ -66,10 +66,10 @@ impl<D: Disk> Stations<D> {
         Ok(Vec::new(self.alloc))
     }
 
-    /// Notes the kept number on the intake's tape, and flushes that.
+    /// Notes the kept number on the intake's tape, and flushes that tape.
     ///
     /// # Errors
-    /// `NotFlushed` where no number is kept, or some peer was not flushed since; `NoMemory`; the tape's.
+    /// `NotFlushed` if no number is kept, or some peer was not flushed since; `NoMemory`; the tape's.
     pub(crate) fn seal(&mut self) -> Result<Vec<Output>, Fault>
         ensures ok { (past : Past) → Stands self.old past
             → IfOk result (λ outputs. Took TakesSeal past outputs.items self.new) }
@@ -110,7 +110,7 @@ impl<D: Disk> Stations<D> {
     /// Drops what exceeds the backlog limit of this peer.
     ///
     /// # Errors
-    /// `NoPeer` where none has this name; `NoMemory`; the station's.
+    /// `NoPeer` if no peer has this name; `NoMemory`; the station's.
     pub(crate) fn shed(&mut self, name: &PeerName) -> Result<Vec<Output>, Fault>
         ensures ok { (past : Past) → Stands self.old past
             → IfOk result (λ outputs. Took (TakesShed name.now) past outputs.items self.new) }
@@ -127,10 +127,10 @@ impl<D: Disk> Stations<D> {
         Ok(outputs)
     }
 
-    /// Writes anew what this peer is owed.
+    /// Rewrites the tape of this peer with what the peer is owed.
     ///
     /// # Errors
-    /// `NoPeer` where none has this name; `NoMemory`; the station's.
+    /// `NoPeer` if no peer has this name; `NoMemory`; the station's.
     pub(crate) fn rotate(&mut self, name: &PeerName) -> Result<Vec<Output>, Fault>
         ensures ok { (past : Past) → Stands self.old past
             → IfOk result (λ outputs. Took (TakesRotate name.now) past outputs.items self.new) }
@@ -147,7 +147,6 @@ impl<D: Disk> Stations<D> {
         Ok(outputs)
     }
 
-    // Sheds at the peer of this rank.
     fn shed_at(&mut self, rank: usize) -> Result<Vec<Key>, Fault>
         requires { rank < vec_len self.old.peers }
         ensures ok { (past : Past) → Stands self.old past
@@ -159,7 +158,6 @@ impl<D: Disk> Stations<D> {
         peer.shed()
     }
 
-    // Rotates the tape of the peer of this rank.
     fn rotate_at(&mut self, rank: usize) -> Result<u64, Fault>
         requires { rank < vec_len self.old.peers }
         ensures ok { (past : Past) → Stands self.old past
@@ -189,7 +187,7 @@ impl<D: Disk> Stations<D> {
         Ok(())
     }
 
-    // Notes this number on the intake's tape, and flushes that.
+    // Notes this number on the intake's tape, and flushes that tape.
     fn seal_number(&mut self, number: u64) -> Result<(), Fault>
         ensures ok { (past : Past) → Stands self.old past → IsSealable past number
             → OnOk result (Did past (seal_events number) self.new) }
@@ -200,7 +198,7 @@ impl<D: Disk> Stations<D> {
         self.acknowledge()
     }
 
-    // Owes a good line to each peer that it names, in byte order of their names, and tells what came of it.
+    // Owes a good line to each peer that it names, in byte order of their names, and returns what came of it.
     fn owe(&mut self, line: FunnelLine) -> Result<Vec<OwedAt>, Fault>
         requires numbered { self.old.last + 1 < 2 ^ 64 }
         ensures ok { (past : Past) → Stands self.old past → IfOk result (λ outputs.
@@ -216,7 +214,7 @@ impl<D: Disk> Stations<D> {
         self.owe_each(found, &token, &id, outputs)
     }
 
-    // Owes a line to the peers at these places, and tells what came of it.
+    // Owes a line to the peers at these ranks, and returns what came of it.
     fn owe_each(
         &mut self,
         found: BTreeMap<usize, PeerName>,
@@ -245,7 +243,7 @@ impl<D: Disk> Stations<D> {
         Ok(outputs)
     }
 
-    // The places of the peers of these names.
+    // The ranks of the peers of these names, in order; a name that no peer has is left out.
     fn find_each(&self, names: Vec<PeerName>) -> Result<BTreeMap<usize, PeerName>, AllocError>
         ensures found { (past : Past) → Stands self.now past
             → IfOk result (λ found. AreFound past names.items found.entries) }
@@ -260,7 +258,7 @@ impl<D: Disk> Stations<D> {
         Ok(found)
     }
 
-    // The rank of the peer of this name, by halves: the names rise.
+    // The rank of the peer of this name, by binary search: the names rise.
     fn find(&self, name: &PeerName) -> Option<usize>
         ensures found { (past : Past) → Stands self.now past → FoundAt past name.now result }
         ensures within { MatchOption result (Unit {0}) (λ rank. rank < vec_len self.now.peers) }

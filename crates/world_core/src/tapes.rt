@@ -1,4 +1,4 @@
-// The steps on tapes, as a world takes them: it runs, and where a step calls disks a stop may be met in it.
+// The steps on tapes, as a world takes them: the world must run, and in a step that calls disks a stop may be met.
 ghost use Rattle.std.specs.Prelude.{◌≡◌, [], IfErr, OnOk};
 
 use crate::fault::{Fault, Halt};
@@ -13,7 +13,6 @@ impl World {
     ghost use Rattle.world_core.specs.declared.step.Step.TheVariants.{Begin, Flush, Import, Line, Part, Rotate, Seal};
     ghost use Rattle.world_core.specs.declared.step.Step.TheVariants.{Shed};
 
-    // Takes a funnel line, without its LF.
     pub(crate) fn line(&mut self, text: &Vec<u8>, out: &mut Vec<Output>) -> Result<(), Fault>
         requires { out.old.items ≡ [] }
         ensures ok { (life : Life) → WorldStands self.old life
@@ -28,7 +27,6 @@ impl World {
         Ok(())
     }
 
-    // Keeps the last line's number.
     pub(crate) fn begin(&mut self, out: &mut Vec<Output>) -> Result<(), Fault>
         requires { out.old.items ≡ [] }
         ensures ok { (life : Life) → WorldStands self.old life
@@ -43,7 +41,6 @@ impl World {
         Ok(())
     }
 
-    // Flushes the station of this peer.
     pub(crate) fn part(&mut self, name: &PeerName, out: &mut Vec<Output>) -> Result<(), Fault>
         requires { out.old.items ≡ [] }
         ensures ok { (life : Life) → WorldStands self.old life
@@ -64,7 +61,6 @@ impl World {
         }
     }
 
-    // Notes the kept number on the intake's tape, and flushes that.
     pub(crate) fn seal(&mut self, out: &mut Vec<Output>) -> Result<(), Fault>
         requires { out.old.items ≡ [] }
         ensures ok { (life : Life) → WorldStands self.old life
@@ -84,7 +80,6 @@ impl World {
         }
     }
 
-    // Keeps the last line's number, flushes each peer, and seals the number.
     pub(crate) fn flush(&mut self, out: &mut Vec<Output>) -> Result<(), Fault>
         requires { out.old.items ≡ [] }
         ensures ok { (life : Life) → WorldStands self.old life
@@ -104,7 +99,6 @@ impl World {
         }
     }
 
-    // Drops what exceeds the backlog limit of this peer.
     pub(crate) fn shed(&mut self, name: &PeerName, out: &mut Vec<Output>) -> Result<(), Fault>
         requires { out.old.items ≡ [] }
         ensures ok { (life : Life) → WorldStands self.old life
@@ -119,7 +113,6 @@ impl World {
         Ok(())
     }
 
-    // Writes anew what this peer is owed.
     pub(crate) fn rotate(&mut self, name: &PeerName, out: &mut Vec<Output>) -> Result<(), Fault>
         requires { out.old.items ≡ [] }
         ensures ok { (life : Life) → WorldStands self.old life
@@ -140,7 +133,6 @@ impl World {
         }
     }
 
-    // Takes in a backlog file of this peer, which has this text.
     pub(crate) fn import(
         &mut self,
         name: &PeerName,

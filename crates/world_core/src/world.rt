@@ -11,9 +11,9 @@ use std::rc::Rc;
 /// A stop that is armed.
 #[derive(Clone, Copy, Debug, PartialEq, Eq)]
 pub(crate) struct Arming {
-    // The rank of the peer at whose tape it comes, or none for the intake's.
+    // The rank of the peer at whose tape it comes, or `None` for the intake's.
     pub(crate) rank: Option<usize>,
-    // How many counted calls there are up to it, itself among them.
+    // How many counted calls there are up to and including the one that it stops.
     pub(crate) call: u64,
     // What it leaves of each disk.
     pub(crate) choice: Choice,
@@ -33,7 +33,7 @@ pub(crate) enum Stage {
 pub struct World {
     pub(crate) alloc: Global,
     pub(crate) stage: Stage,
-    // The stop that is armed, as the disks see it: they share it, so that there is one at most, and it stops them all.
+    // The stop that is armed, as the disks see it: all share it, so that there is at most one, and it stops them all.
     pub(crate) trigger: Rc<Cell<Trigger>>,
     pub(crate) armed: Option<Arming>,
     // The number of the last connection that was made.

@@ -2,7 +2,7 @@ use Rattle.std.proofs.Common.{◌≡◌, ◌++◌, length, map}
 use Rattle.world_core.specs.Output.{SentLine, lines_in, said_of}
 use Rattle.world_core.proofs.connection.add_sent.Given as goal
 
--- what was reported, and the lines that are left, are all that is to be told
+-- what was reported, and the lines that are left, are together the whole report
 abbrev pub invariant-loop-line : goal.invariant-loop-line
 invariant-loop-line l = map said_of l.outputs.items ++ map (SentLine l.connection) (lines_in l.rest)
     ≡ map said_of l.initial.outputs.items ++ map (SentLine l.connection) (lines_in l.initial.rest)

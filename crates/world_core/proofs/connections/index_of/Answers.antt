@@ -1,4 +1,4 @@
--- Where a connection has the number, and where none has.
+-- A connection has the number, or none has.
 use Rattle.std.proofs.Common.{rules}
 use Rattle.std.specs.Ordering.{nat_cmp}
 use Rattle.std.proofs.lemmas.Fn.{always_returns_same}

@@ -3,7 +3,7 @@ use Rattle.std.specs.List.{AllZip}
 use Rattle.world_core.specs.Halting.{HaltsAs}
 use Rattle.world_core.proofs.halt.halt_each.Given as goal
 
--- so far each has stopped, and there is room for the others
+-- each so far has stopped, and there is room for the others
 abbrev pub invariant-loop-peer : goal.invariant-loop-peer
 invariant-loop-peer l = record {
   stopped : AllZip HaltsAs l.yielded l.room.items;

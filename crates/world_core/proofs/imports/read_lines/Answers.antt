@@ -1,4 +1,4 @@
--- One line more at each turn.
+-- One more line at each turn.
 use Rattle.std.proofs.Common.{List, map, refl, sym, subst, arith, rules}
 use Rattle.funnel.specs.Stream.{IsUnended}
 use Rattle.world_core.specs.Importing.{good_of}

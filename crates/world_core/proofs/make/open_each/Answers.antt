@@ -1,4 +1,4 @@
--- One tape more is opened at each turn, or it is the first that is refused.
+-- One more tape is opened at each turn, or it is the first that is refused.
 use Rattle.std.proofs.Common.{◌≡◌, [], Some, List, length, vec_len, sym, ap, ◌∙◌, subst, arith}
 use Rattle.std.proofs.lemmas.Iterator.Adapters.{YieldsList-from_vec}
 use Rattle.std.proofs.lemmas.Iterator.Consumers.{YieldsList-end, YieldsList-so_far, YieldsList-turn}

@@ -1,4 +1,4 @@
--- One more is tried at each turn, up to the last.
+-- One more opening at each turn, up to the last.
 use Rattle.std.proofs.Common.{◌≡◌, length, ap, arith}
 use Rattle.world_core.proofs.OpeningsEnd.{tried_none, tries_all}
 use Rattle.world_core.proofs.restart.open_all.Goals as goal

@@ -4,7 +4,7 @@ use Rattle.world_core.specs.Opening.{HasRoomFor, Tries}
 use Rattle.world_core.specs.Past.{Past}
 use Rattle.world_core.proofs.restart.open_all.Given as goal
 
--- those so far were tried, and there is room for the others
+-- these so far are done with, and there is room for the others
 abbrev pub invariant-loop-peer : goal.invariant-loop-peer
 invariant-loop-peer l = record {
   tries : (past : Past) → TapesStop past l.fn.peers.items l.fn.intake → Tries past l.opening l.peer-iterator.rest.items;

@@ -1,4 +1,4 @@
--- One name more at each turn.
+-- One more name at each turn.
 use Rattle.std.proofs.Common.{arith}
 use Rattle.world_core.proofs.PeerCounts.{name_more}
 use Rattle.world_core.proofs.run.names_of.Goals as goal

@@ -1,4 +1,3 @@
--- The connection breaks, and what follows is reported.
 use Rattle.std.proofs.Common.{refl}
 use Rattle.world_core.specs.Exchange.{broken_off}
 use Rattle.world_core.proofs.ConnectionBreaks.{open_said, pair_broken}

@@ -4,7 +4,7 @@ use Rattle.world_core.specs.Past.{ConnPast, PeerPast}
 use Rattle.world_core.specs.Pairs.{PairStands, SettledSome, left_at}
 use Rattle.world_core.proofs.connection.Connection.settle_all.Given as goal
 
--- so many outcomes, from the first on, went to the peer
+-- this many outcomes, from the first on, went to the peer
 abbrev pub invariant-loop : goal.invariant-loop
 invariant-loop g l = (id : ℕ) (conn : ConnPast) (past : PeerPast)
     → PairStands id conn past l.initial.self l.initial.peer

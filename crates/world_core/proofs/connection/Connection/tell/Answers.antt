@@ -1,4 +1,4 @@
--- Behind the outcomes comes what is reported of the connection, and its output counts as sent.
+-- After the outcomes, the connection's report follows, and its output counts as sent.
 use Rattle.std.proofs.Common.{◌∙◌, ap, length, refl, sym}
 use Rattle.world_core.proofs.Results.{if_err}
 use Rattle.world_core.proofs.OutputSent.{followed, tell_refused}

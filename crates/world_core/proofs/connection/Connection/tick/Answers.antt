@@ -1,4 +1,4 @@
--- The moment is reported, and what follows it.
+-- The moment is set, and what follows is reported.
 use Rattle.std.proofs.Common.{refl}
 use Rattle.world_core.specs.Exchange.{ticked}
 use Rattle.world_core.proofs.ConnectionBreaks.{open_said, pair_ticked}

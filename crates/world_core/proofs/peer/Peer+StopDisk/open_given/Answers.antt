@@ -1,4 +1,4 @@
--- What the octets are is what the station stands for.
+-- The station stands for the ledger that the octets are.
 use Rattle.std.proofs.Common.{◌∷◌, [], refl, ap, ◌∙◌, subst}
 use Rattle.disk_model.specs.Disk.Event.{Made}
 use Rattle.recovery.specs.Image.{IsNoTapeAt, Log}

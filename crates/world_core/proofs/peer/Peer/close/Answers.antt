@@ -1,4 +1,3 @@
--- The source that is open is closed.
 use Rattle.std.proofs.Common.{refl}
 use Rattle.world_core.proofs.PeerCloses.{closed_answered, closed_refused}
 use Rattle.world_core.proofs.Results.{at_err, at_ok}

@@ -1,4 +1,4 @@
--- The peer was flushed, and that since a number was kept.
+-- The peer was flushed, and counts as flushed since a number was kept.
 use Rattle.std.proofs.Common.{refl}
 use Rattle.world_core.proofs.Results.{if_err_is}
 use Rattle.world_core.proofs.peer.Peer.flush.Goals as goal

@@ -1,4 +1,4 @@
--- What lay there is what the station stands for.
+-- The station stands for the ledger that lay on the disks.
 use Rattle.std.proofs.Common.{◌∙◌, ap, refl}
 use Rattle.world_core.specs.Past.{limits_of}
 use Rattle.world_core.proofs.TapeOpened.{each_there, opened_as, refused_as}

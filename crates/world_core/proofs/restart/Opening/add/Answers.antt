@@ -1,4 +1,4 @@
--- One peer more was tried: it stays stopped behind one that was refused, or is open, or is the first that is refused.
+-- One more peer is done with: it stays stopped, after one that was refused; or it is open; or it is the first refused.
 use Rattle.std.proofs.Common.{◌≡◌, ℕ, Some, length, sym, ap, ◌∙◌, arith}
 use Rattle.world_core.proofs.PeerOpened.{tried_behind, tried_open, tried_refused}
 use Rattle.world_core.proofs.restart.Opening.add.Goals as goal

@@ -1,4 +1,4 @@
--- The intake is opened behind all peers, or one tape was refused.
+-- The intake's tape is opened after those of all peers, or one tape was refused.
 use Rattle.std.proofs.Common.{[], refl, ◌∙◌}
 use Rattle.world_core.proofs.OpeningsEnd.{closes, intake_there, opens_intake, refuses_intake, tries_none, tries_some}
 use Rattle.world_core.proofs.restart.Opening.end.Goals as goal

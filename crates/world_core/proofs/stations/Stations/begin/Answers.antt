@@ -1,4 +1,4 @@
--- No peer was flushed since.
+-- No peer was flushed since the number was kept.
 use Rattle.std.proofs.Common.{◌≡◌, ◌∙◌, length, drop, map, refl, ap, arith}
 use Rattle.std.proofs.lemmas.List.{length-map, take-append-le, take_all}
 use Rattle.world_core.specs.Stands.{unparted}

@@ -1,4 +1,4 @@
--- A connection more, behind all others.
+-- One more connection, after all others.
 use Rattle.std.proofs.Common.{◌≡◌, ◌∙◌, ◌+◌, ◌<◌, ◌^◌, ◌++◌, ◌∷◌, [], ap, arith, refl, rules, sym}
 use Rattle.world_core.specs.declared.output.Output.TheVariants.{Connected as OutputConnected}
 use Rattle.world_core.specs.Output.{Connected, Said, said_of}

@@ -1,4 +1,4 @@
--- Where an element is equal, and where none is.
+-- A peer has the name, or none has.
 use Rattle.std.proofs.Common.{rules, subst, length}
 use Rattle.std.specs.Cmp.Lexicographic.{slice_cmp}
 use Rattle.std.specs.Ordering.{nat_cmp}

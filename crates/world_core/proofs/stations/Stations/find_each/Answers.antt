@@ -1,4 +1,4 @@
--- A name more at each turn.
+-- One more name at each turn.
 use Rattle.std.proofs.Common.{sym, subst}
 use Rattle.world_core.specs.Stepped.{AreWithin}
 use Rattle.world_core.proofs.NamedPeers.{found_first, found_more, found_same, within_more}

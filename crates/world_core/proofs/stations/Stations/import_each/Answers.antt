@@ -1,4 +1,4 @@
--- One line more at each turn.
+-- One more line at each turn.
 use Rattle.std.proofs.Common.{◌∙◌, ◌+◌, ◌<◌, ℕ, List, drop, length, map, refl, sym, ap, subst, arith}
 use Rattle.world_core.specs.Imports.{Good}
 use Rattle.world_core.specs.Importing.{HasImported, good_of}

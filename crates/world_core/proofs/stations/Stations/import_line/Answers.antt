@@ -1,4 +1,4 @@
--- Room for its note, where it makes one, and then the line.
+-- Room for the line's note, if it makes one, and then the line.
 use Rattle.std.proofs.Common.{arith}
 use Rattle.world_core.specs.Importing.{good_of}
 use Rattle.world_core.proofs.ImportCalls.{line_failed, line_no_room, line_took}

@@ -1,4 +1,4 @@
--- What the line says decides.
+-- The text decides: the line is good, or malformed.
 use Rattle.std.proofs.Common.{◌≡◌, ◌∙◌, ◌+◌, ◌<◌, ◌^◌, ap, refl, rules}
 use Rattle.world_core.proofs.LineRead.{line_bad, line_failed, line_good, reads_bad}
 use Rattle.world_core.proofs.Results.{if_err_is}

@@ -1,4 +1,4 @@
--- One rank more at each turn.
+-- One more rank at each turn.
 use Rattle.std.proofs.Common.{◌≡◌, ◌∙◌, ℕ, length, vec_len, refl, sym, ap, subst, arith}
 use Rattle.world_core.specs.Stepped.{AreFound, AreWithin}
 use Rattle.world_core.proofs.LineAtNamedPeers.{OwedSome, length_more, some_all, some_failed, some_more, some_none, split_end}

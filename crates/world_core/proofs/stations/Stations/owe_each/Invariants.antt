@@ -5,7 +5,7 @@ use Rattle.world_core.specs.Stepped.{AreFound, AreWithin}
 use Rattle.world_core.proofs.LineAtNamedPeers.{OwedSome}
 use Rattle.world_core.proofs.stations.Stations.owe_each.Given as goal
 
--- the line was owed at the first of the places, and there is room for what is reported of the others
+-- the line was owed at the ranks so far, and there is room for what is reported of the others
 abbrev pub invariant-loop-rank : goal.invariant-loop-rank
 invariant-loop-rank g l = record {
   can : (goal.iterator-loop-rank g).can_next l.rank-iterator;

@@ -1,4 +1,4 @@
--- One rank more at each turn.
+-- One more rank at each turn.
 use Rattle.std.proofs.Common.{◌≡◌, ◌∙◌, ℕ, ◌<◌, length, arith, refl, subst}
 use Rattle.world_core.specs.Stands.{PeerStands}
 use Rattle.world_core.specs.Stepped.{PartedEach}

@@ -1,4 +1,4 @@
--- Each peer tells whether it was flushed.
+-- Each peer knows whether it was flushed.
 use Rattle.std.proofs.Common.{◌∙◌, ap, sym}
 use Rattle.std.specs.List.{list_all}
 use Rattle.world_core.proofs.NumberKept.{each_parted, if_some, parted_each}

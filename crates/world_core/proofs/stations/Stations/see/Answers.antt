@@ -1,4 +1,4 @@
--- The number is noted already, or now.
+-- The number was noted before, or is noted now.
 use Rattle.std.proofs.Common.{refl, arith}
 use Rattle.world_core.proofs.IntakeSees.{did_see, did_see_old, failed_see}
 use Rattle.world_core.proofs.stations.Stations.see.Goals as goal

@@ -1,4 +1,4 @@
--- One connection more at each turn.
+-- One more connection at each turn.
 use Rattle.std.proofs.Common.{◌≡◌, ◌∙◌, ℕ, length, arith, refl, subst}
 use Rattle.world_core.specs.Joined.{MadeOn, TicksSome}
 use Rattle.world_core.proofs.Results.{if_err_is}

@@ -3,7 +3,7 @@ use Rattle.world_core.specs.Past.{Life}
 use Rattle.world_core.specs.Joined.{AreRunning, MadeOn, TicksSome}
 use Rattle.world_core.proofs.stations.Stations.tick.Given as goal
 
--- the connections so far were told the moment
+-- the moment of the connections so far was set
 abbrev pub invariant-loop-index : goal.invariant-loop-index
 invariant-loop-index g l = record {
   ticks : (life : Life) → AreRunning life l.initial.self l.initial.connections.items → life.now ≡ l.now

@@ -1,4 +1,4 @@
--- The connection is told the moment, and what follows it comes about in the world.
+-- The moment of the connection is set, and what follows comes about in the world.
 use Rattle.std.proofs.Common.{◌∙◌, ap, arith, refl, sym, Some}
 use Rattle.std.proofs.lemmas.Option.{slice_get-get_or}
 use Rattle.world_core.proofs.ConnectionSteps.{found_put, ticked_one, ticked_one_not}

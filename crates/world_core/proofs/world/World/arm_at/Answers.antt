@@ -1,4 +1,4 @@
--- A stop is armed in the place of any that was.
+-- A stop is armed in place of any that was.
 use Rattle.std.proofs.Common.{refl}
 use Rattle.world_core.proofs.PeerRanks.{armed_world}
 use Rattle.world_core.proofs.world.World.arm_at.Goals as goal

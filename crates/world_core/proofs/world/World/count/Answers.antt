@@ -1,4 +1,4 @@
--- There are as many peers as what they stand for has.
+-- There are as many peers as in the life that the world stands for.
 use Rattle.std.proofs.Common.{◌≡◌, length, vec_len, sym, ap, ◌∙◌, arith}
 use Rattle.world_core.proofs.NamesOverRuns.{count_at, count_stage}
 use Rattle.world_core.proofs.world.World.count.Goals as goal

@@ -1,4 +1,4 @@
--- Each peer's counts stand behind its name.
+-- Each peer's counts follow its name.
 use Rattle.std.proofs.Common.{◌≡◌, List, length, map, sym, ap, ◌∙◌, arith}
 use Rattle.world_core.specs.Stands.{counts_in}
 use Rattle.world_core.specs.Turn.{names_at}

@@ -1,4 +1,3 @@
--- All stations stop.
 use Rattle.std.proofs.Common.{refl, sym, ◌∙◌}
 use Rattle.world_core.proofs.WorldStopped.{halted_on}
 use Rattle.world_core.proofs.world.World.halt.Goals as goal

@@ -1,4 +1,3 @@
--- The stations take the line.
 use Rattle.std.proofs.Common.{List, ℕ, refl, subst}
 use Rattle.world_core.specs.Steps.{RefusesLine, TakesLine}
 use Rattle.world_core.specs.Stepped.{Took as TookTapes, TookNot}

@@ -1,4 +1,4 @@
--- The names of the peers are those of what they stand for.
+-- The names of the peers are those in the life that the world stands for.
 use Rattle.std.proofs.Common.{List, ℕ, map, sym, ap, ◌∙◌}
 use Rattle.world_core.specs.Turn.{names_at}
 use Rattle.world_core.specs.declared.peer.StoppedPeer.{StoppedPeer}

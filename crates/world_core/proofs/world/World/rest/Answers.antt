@@ -1,4 +1,3 @@
--- It runs, and stops.
 use Rattle.std.proofs.Common.{map, refl, ap, ◌∙◌, inl}
 use Rattle.world_core.specs.Output.{said_of}
 use Rattle.world_core.proofs.WorldReopened.{runs_stage}

@@ -1,4 +1,4 @@
--- One step more at each turn.
+-- One more step at each turn.
 use Rattle.std.proofs.Common.{◌≡◌, ◌∙◌, ◌++◌, ◌∷◌, [], List, take, length, ◌<◌, refl, sym, ap, subst, inl, arith}
 use Rattle.std.proofs.lemmas.List.{take_all, take_more}
 use Rattle.std.proofs.lemmas.Option.{slice_get_read}

@@ -1,4 +1,4 @@
--- A stop is met where a disk failed at the tape that it names.
+-- The stop is met if a disk failed at the tape that it names.
 use Rattle.world_core.proofs.Results.{if_err_map, on_ok_map}
 use Rattle.world_core.proofs.StepsOfWorlds.{struck, struck_unreported}
 use Rattle.world_core.proofs.world.World.settle.Goals as goal

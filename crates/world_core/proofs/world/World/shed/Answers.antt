@@ -1,4 +1,3 @@
--- The stations shed.
 use Rattle.std.proofs.Common.{refl}
 use Rattle.world_core.specs.Steps.{RefusesShed, TakesShed}
 use Rattle.world_core.specs.declared.step.Step.TheVariants.{Shed}

@@ -1,4 +1,4 @@
--- All stops, and then a choice leaves what it does.
+-- All stops, and then each disk keeps what the choice leaves of it.
 use Rattle.std.proofs.Common.{map, refl, ap, ◌∙◌, inr}
 use Rattle.world_core.specs.Halts.{AtRest, halted}
 use Rattle.world_core.specs.Output.{said_of}

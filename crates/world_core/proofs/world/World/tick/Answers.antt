@@ -1,4 +1,4 @@
--- The moment is the world's from the step's start on.
+-- The world's moment is the new one from the start of the step.
 use Rattle.std.proofs.Common.{length, refl}
 use Rattle.world_core.specs.Exchange.{at_moment}
 use Rattle.world_core.specs.Joined.{TicksNot, TicksSome}

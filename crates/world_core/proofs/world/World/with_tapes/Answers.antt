@@ -1,4 +1,4 @@
--- The tapes of the peers in order are opened, or the first that is refused is reported.
+-- The tapes of the peers are opened in order, or the first that is refused is reported.
 use Rattle.std.proofs.Common.{refl, rules}
 use Rattle.std.proofs.lemmas.Cmp.{nat_list_cmp_total}
 use Rattle.std.proofs.lemmas.List.Sorted.{answers_always, ranks_by}
