@@ -136,7 +136,23 @@ fn measure<D: Disk + Drop + Send, R: AllocGlobal + Clock + Log + Threads + Wait 
     let Ok(intake) = Tape::open(alloc, a, b) else {
         bail!("the intake tape was not opened");
     };
-    let peers = vec![in alloc; first, second]?;
+    on_peers(rt, first, second, intake, count)
+}
+
+// Keeps a post of these peers at work.
+fn on_peers<D: Disk + Drop + Send, R: AllocGlobal + Clock + Log + Threads + Wait + Sync>(
+    rt: &R,
+    first: PostPeer<D>,
+    second: PostPeer<D>,
+    intake: Tape<D>,
+    count: u64,
+) -> Result<Measured>
+    requires { IsFlushed first.station × IsFlushed second.station }
+{
+    let alloc = rt.alloc();
+    let mut peers = Vec::new(alloc);
+    peers.push(first)?;
+    peers.push(second)?;
     let blanks = Blanks::new(alloc, 2)?;
     work::<Brand, D, R>(rt, peers, intake, blanks, count)
 }

@@ -1,5 +1,5 @@
 use Rattle.flusher.specs.Post.{names_of}
-use Rattle.tool_latency.proofs.measure.Given as goal
+use Rattle.tool_latency.proofs.on_peers.Given as goal
 
 -- the ledgers and queues are named after their blanks and the peers
 abbrev pub ghosts-work : goal.ghosts-work
