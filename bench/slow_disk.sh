@@ -4,7 +4,8 @@
 # parts are, all of them if none is named:
 #   peers: with one peer and with four, each in memory (bench/sink.c) and with two connections, where each line names
 #     all peers and its article has 1 KiB: how many lines a second are taken, from the start of the program to its last
-#     `taken N` (aim: 50,000 with four), and how many of a whole run, to its end;
+#     `taken N` (aim: 50,000 with four), and how many of a whole run, to its end; with four also beside the disk as it
+#     is, where the processors decide;
 #   inn: with one peer, and where Debian's inn2 is installed, how many articles a second that peer gets, between its
 #     first and its last, of 1, 4 and 32 KiB (of these a quarter as many) over 1, 2 and 4 connections, beside INN's
 #     innfeed, which works off as many from a backlog file on the same disk (aim: at least 1.3).
@@ -60,13 +61,14 @@ beside() {
 
 # with_peers: runs with one peer and with four.
 with_peers() {
-  local peers turn
+  local peers turn rate
   articles 1024 "$lines"
   for peers in 1 4; do
     rm -f ours.* theirs.*
     for ((turn = 0; turn < runs; turn++)); do
       fed "$top" "$peers" ours
       [ -z "${BEFORE-}" ] || fed "$BEFORE" "$peers" theirs
+      [ "$peers" = 1 ] || (surroundings=() && fed "$top" "$peers" ours.fast)
     done
     if [ "$peers" = 1 ]; then
       beside taken 'one peer, taken'
@@ -75,6 +77,8 @@ with_peers() {
       beside taken 'four peers, taken'
       beside whole 'four peers, whole runs' ' (aim 2)'
       ratio 'syncs of 5 ms more, four peers, taken, beside 50,000 lines a second' "$(greatest ours.taken)" 50000
+      rate=$(greatest ours.fast.whole)
+      ratio "syncs of 5 ms more, four peers, whole runs, beside $rate on the disk as it is" "$(greatest ours.whole)" "$rate"
     fi
   done
 }
