@@ -7,7 +7,8 @@
  *
  * $POWER_LOGS/NAME has, in order, each call at $POWER_DIRECTORY/NAME: `W AT LENGTH` with that many
  * octets in the next line, before they are written; `T LENGTH` before the file is cut; `S` after a
- * sync has succeeded. A record that is cut short belongs to a call that was not made.
+ * sync has succeeded. A record that is cut short belongs to a call that was not made. Each sync takes
+ * $POWER_SYNC_MS milliseconds longer, so that a kill is likely to come before its end.
  */
 #define _GNU_SOURCE
 #include <fcntl.h>
@@ -16,6 +17,7 @@
 #include <string.h>
 #include <sys/syscall.h>
 #include <sys/uio.h>
+#include <time.h>
 #include <unistd.h>
 
 /* The log of an open file, or -1 if the file is in another directory. */
@@ -62,6 +64,11 @@ int ftruncate64(int file, off64_t length) {
 int ftruncate(int file, off_t length) { return ftruncate64(file, length); }
 
 static int synced(int file, long failed) {
+  const char *words = getenv("POWER_SYNC_MS");
+  long milliseconds = words == NULL ? 0 : atol(words);
+  struct timespec left = {milliseconds / 1000, milliseconds % 1000 * 1000000};
+  while (nanosleep(&left, &left) != 0) {
+  }
   if (failed == 0) keep(file, "S\n", NULL, 0);
   return failed == 0 ? 0 : -1;
 }
