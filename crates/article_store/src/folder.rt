@@ -17,10 +17,10 @@ use std::rt::Files;
 use std::str;
 
 // One octet more than the longest text that can be sent: a text of this length is not read further.
-const MOST: usize = 16_777_217;
+const READ_MAX_OCTETS: usize = 16_777_217;
 
 // The room made for the first file, in octets; most articles fit.
-const FIRST_ROOM: usize = 65_536;
+const FIRST_ROOM_OCTETS: usize = 65_536;
 
 /// Articles that are files below a directory: the text of a token is in the file whose path is the directory's, `/`
 /// and the token. Each fetch looks at, opens, reads and closes one file, and copies its text once. The path and the
@@ -143,7 +143,8 @@ fn build_path<'p>(path: &'p mut String, root: &String, token: &Token) -> Result<
     Ok(path.as_str())
 }
 
-// Reads to the reader's end, but at most `MOST` octets, into a prefix of the buffer, and returns how many came.
+// Reads to the reader's end, but at most `READ_MAX_OCTETS`, into a prefix of the buffer, and returns how many octets
+// came.
 fn read_front<R: Read>(reader: &mut R, buffer: &mut Vec<u8>) -> io::Result<usize>
     ensures within { IfOk result (λ count. count ≤ length buffer.new.items) }
     ensures short { IfOk result (λ count. count ≤ 16777217) }
@@ -154,7 +155,7 @@ fn read_front<R: Read>(reader: &mut R, buffer: &mut Vec<u8>) -> io::Result<usize
 {
     let mut filled = 0;
     for _ in 0..u64::MAX {
-        if filled >= MOST {
+        if filled >= READ_MAX_OCTETS {
             return Ok(filled);
         }
         match read_more(reader, buffer, filled) {
@@ -182,7 +183,7 @@ fn read_more<R: Read>(reader: &mut R, buffer: &mut Vec<u8>, filled: usize) -> io
     if filled >= buffer.len() {
         make_room(buffer)?;
     }
-    let end = buffer.len().min(MOST);
+    let end = buffer.len().min(READ_MAX_OCTETS);
     read_at(reader, buffer.as_mut_slice(), filled, end)
 }
 
@@ -205,14 +206,17 @@ fn read_at<R: Read>(
     reader.read(&mut buffer[start..end])
 }
 
-// Doubles a buffer, up to `MOST` octets.
+// Doubles a buffer, up to `READ_MAX_OCTETS` octets.
 fn make_room(buffer: &mut Vec<u8>) -> Result<(), AllocError>
     requires { length buffer.old.items < 16777217 }
     ensures longer { OnOk result (length buffer.old.items < length buffer.new.items) }
     ensures front { (count : ℕ) → count ≤ length buffer.old.items
         → take count buffer.new.items ≡ take count buffer.old.items }
 {
-    let room = buffer.len().saturating_mul(2).clamp(FIRST_ROOM, MOST);
+    let room = buffer
+        .len()
+        .saturating_mul(2)
+        .clamp(FIRST_ROOM_OCTETS, READ_MAX_OCTETS);
     buffer.resize(room, 0)
 }
 

@@ -8,13 +8,13 @@ use funnel::MsgId;
 const LINE_END: &[u8] = b"\r\n";
 
 // The length of our longest command line without its message-id: TAKETHIS, a space, CR and LF, in octets.
-pub(crate) const LONGEST_VERB: usize = 11;
+pub(crate) const VERB_MAX_OCTETS: usize = 11;
 
 // The length of MODE STREAM with CR and LF, in octets.
-pub(crate) const MODE_STREAM: usize = 13;
+pub(crate) const MODE_STREAM_OCTETS: usize = 13;
 
 // The length of QUIT with CR and LF, in octets.
-pub(crate) const QUIT: usize = 6;
+pub(crate) const QUIT_OCTETS: usize = 6;
 
 // Writes a command line: the verb with its space, the message-id, CR and LF (RFC 3977, section 3.1).
 pub(crate) fn put_line(output: &mut BytesMut, verb: &[u8], id: &[u8])
@@ -36,7 +36,7 @@ pub(crate) fn id_len(id: &MsgId) -> usize
 }
 
 // The room that an empty output keeps, in octets; after a longer article it is given back.
-const MOST_KEPT: usize = 262_144;
+const OUTPUT_KEPT_MAX_OCTETS: usize = 262_144;
 
 // Drops all octets without a copy. Their room is free again; if it is more than an output keeps, all but the room for
 // a QUIT is given back. If memory is refused for that, it stays.
@@ -45,8 +45,8 @@ pub(crate) fn empty(output: &mut BytesMut)
     ensures spare { (6 ≤ output.new.spare) ⊎ (output.old.spare ≤ output.new.spare) }
 {
     output.clear();
-    if output.capacity() > MOST_KEPT {
-        if let Ok(small) = BytesMut::with_capacity(*output.allocator(), QUIT) {
+    if output.capacity() > OUTPUT_KEPT_MAX_OCTETS {
+        if let Ok(small) = BytesMut::with_capacity(*output.allocator(), QUIT_OCTETS) {
             *output = small;
         }
     }

@@ -17,7 +17,7 @@ use crate::check_switch::CheckSwitch;
 use crate::codes::Verb;
 use crate::held::HeldDebts;
 use crate::kept::{AwaitedAsk, WantedArticle};
-use crate::lines::{LONGEST_VERB, QUIT, empty, id_len, put_line, skip};
+use crate::lines::{QUIT_OCTETS, VERB_MAX_OCTETS, empty, id_len, put_line, skip};
 use crate::lookup::is_wanted;
 use crate::mode::Mode;
 use crate::options::Options;
@@ -147,7 +147,7 @@ impl Machine {
             window: VecDeque::new(alloc),
             blocks: VecDeque::new(alloc),
             wanted: VecDeque::new(alloc),
-            output: BytesMut::with_capacity(alloc, QUIT)?,
+            output: BytesMut::with_capacity(alloc, QUIT_OCTETS)?,
             found: VecDeque::new(alloc),
             closed: None,
             unanswered: None,
@@ -201,11 +201,11 @@ impl Machine {
         ensures unchanged { OnErr result (self.new ≡ self.old) }
         ensures returned { IfErr result (λ back. back ≡ debt) }
     {
-        let line = id_len(debt.id()) + LONGEST_VERB;
+        let line = id_len(debt.id()) + VERB_MAX_OCTETS;
         if self.held.reserve().is_err()
             || self.found.reserve(self.held.len() + 1).is_err()
             || self.window.reserve(1).is_err()
-            || self.output.reserve(line + QUIT).is_err()
+            || self.output.reserve(line + QUIT_OCTETS).is_err()
         {
             return Err(debt);
         }

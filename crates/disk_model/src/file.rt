@@ -8,7 +8,7 @@ use crate::raw_file::{RawFault, RawFile};
 use crate::{Disk, DiskFault};
 
 // How many calls of one transfer may be interrupted.
-const MOST_INTERRUPTIONS: u64 = 1_000;
+const INTERRUPTIONS_MAX: u64 = 1_000;
 
 /// A file as a disk. It is honest over an honest file.
 ///
@@ -74,7 +74,7 @@ fn read_whole<F: RawFile>(file: &mut F, at: u64, into: &mut [u8]) -> Result<(), 
         (λ (old : F × List ℕ) done told new. F.reads old.0 at old.1 done told new.1 new.0)
         (length into.old) (file.old, into.old) result (file.new, into.new) }
 {
-    let turns = (into.len() as u64).saturating_add(MOST_INTERRUPTIONS);
+    let turns = (into.len() as u64).saturating_add(INTERRUPTIONS_MAX);
     let mut done = 0;
     for _call in 0..turns {
         if done == into.len() {
@@ -99,7 +99,7 @@ fn write_whole<F: RawFile>(file: &mut F, at: u64, from: &[u8]) -> Result<(), Dis
     ensures asks { WritesOut (λ old done told new. F.writes old at from.now done told new)
         (length from.now) file.old result file.new }
 {
-    let turns = (from.len() as u64).saturating_add(MOST_INTERRUPTIONS);
+    let turns = (from.len() as u64).saturating_add(INTERRUPTIONS_MAX);
     let mut done = 0;
     for _call in 0..turns {
         match file.pwrite(at, from, done) {
@@ -121,7 +121,7 @@ fn cut_once<F: RawFile>(file: &mut F, len: u64) -> Result<(), DiskFault>
     ensures asks { Tries (λ old told new. F.truncates old len told new) most_tries
         file.old result file.new }
 {
-    for _try in 0..MOST_INTERRUPTIONS {
+    for _try in 0..INTERRUPTIONS_MAX {
         match file.truncate(len) {
             Ok(()) => return Ok(()),
             Err(RawFault::Failed) => return Err(DiskFault),
@@ -137,7 +137,7 @@ fn sync_once<F: RawFile>(file: &mut F) -> Result<(), DiskFault>
     ensures log { F.honest file.old → Syncs (F.log file.old) result (F.log file.new) }
     ensures asks { Tries F.syncs most_tries file.old result file.new }
 {
-    for _try in 0..MOST_INTERRUPTIONS {
+    for _try in 0..INTERRUPTIONS_MAX {
         match file.sync() {
             Ok(()) => return Ok(()),
             Err(RawFault::Failed) => return Err(DiskFault),

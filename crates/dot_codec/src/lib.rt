@@ -15,4 +15,4 @@ mod write;
 
 pub use fault::{BlockFault, BlockRefusal};
 pub use read::from_block;
-pub use write::{LONGEST_TEXT, is_sendable, to_block};
+pub use write::{TEXT_MAX_OCTETS, is_sendable, to_block};

@@ -12,7 +12,7 @@ use memchr::{memchr_iter, memchr2_iter};
 use std::alloc::{AllocError, Global};
 
 /// The length of the longest text that can be sent, in octets (profile).
-pub const LONGEST_TEXT: usize = 16_777_216;
+pub const TEXT_MAX_OCTETS: usize = 16_777_216;
 
 /// The block of a text, in its written form: each line with CR LF and, if it begins with a dot, one more dot before
 /// it; a dot alone at the end (RFC 3977, section 3.1.1).
@@ -43,7 +43,7 @@ pub fn to_block(alloc: Global, text: &[u8]) -> Result<Bytes, BlockRefusal>
 pub fn is_sendable(text: &[u8]) -> bool
     ensures { IsTrue result ↔ IsSendable text.now }
 {
-    !text.is_empty() && text.len() <= LONGEST_TEXT && has_lines(text)
+    !text.is_empty() && text.len() <= TEXT_MAX_OCTETS && has_lines(text)
 }
 
 // Each NUL or CR must be a CR directly before an LF. Few texts have any, so this is one wide search of the text.

@@ -7,10 +7,10 @@ use std::io::{BufRead, BufReader, ErrorKind, Read, Write};
 use std::rt::Files;
 
 // How many octets are read at once.
-const ROOM: usize = 65_536;
+const BUFFER_OCTETS: usize = 65_536;
 
 // The length of the longest line before an article, in octets with its LF.
-const LONGEST_LINE: u64 = 64;
+const LINE_MAX_OCTETS: u64 = 64;
 
 // Where articles are filed, and under which tokens.
 #[derive(Drop)]
@@ -30,7 +30,7 @@ pub fn file_all<R: AllocGlobal + Input + Print + Files<File: Write>>(
     waiting: Waiting,
 ) -> Result<(), FilingFault> {
     let alloc = rt.alloc();
-    let Ok(mut reader) = BufReader::with_capacity(alloc, ROOM, rt.reader()) else {
+    let Ok(mut reader) = BufReader::with_capacity(alloc, BUFFER_OCTETS, rt.reader()) else {
         return Err(FilingFault::NoMemory);
     };
     let mut filer = Filer {
@@ -80,7 +80,7 @@ fn next_length<B: BufRead>(
     count: u64,
 ) -> Result<Option<u64>, FilingFault> {
     let mut line = Vec::new(alloc);
-    if let Err(reason) = reader.take(LONGEST_LINE).read_until(b'\n', &mut line) {
+    if let Err(reason) = reader.take(LINE_MAX_OCTETS).read_until(b'\n', &mut line) {
         return Err(FilingFault::unread(alloc, "standard input", reason));
     }
     if line.is_empty() {

@@ -19,16 +19,16 @@ use conn_core::{CxnId, Outcome};
 use disk_model::Disk;
 use ledger_core::{Debt, Totals};
 use peer_queue::{Settled, Shed};
-use recovery::MOST_PENDING;
+use recovery::PENDING_MAX_NOTES;
 use std::hint::spin_loop;
 use std::sync::atomic::Ordering;
 use std::sync::{Mutex, MutexGuard, Wait};
 
 // Half of the notes that may pend at a front.
-const HALF: usize = MOST_PENDING / 2;
+const HALF_FULL_NOTES: usize = PENDING_MAX_NOTES / 2;
 
 // How often a call that waits for nobody looks whether a lock is free, before it is refused.
-const LOOKS: u32 = 100;
+const LOOKS_MAX: u32 = 100;
 
 impl<D: Disk, N: Naming> Post<D, N> {
     /// How many peers there are.
@@ -334,7 +334,7 @@ impl<D: Disk, N: Naming> Post<D, N> {
     pub(crate) fn note_half_full(&self, peer: usize, before: usize, now: usize)
         requires { peer < length self.now.names }
     {
-        if before < HALF && now >= HALF {
+        if before < HALF_FULL_NOTES && now >= HALF_FULL_NOTES {
             self.peers[peer].half_full.store(true, Ordering::SeqCst);
         }
     }
@@ -420,7 +420,7 @@ fn finish_in<N: Naming>(
 
 // What a lock keeps, if the lock is free, or soon is.
 fn free<T>(lock: &Mutex<T>) -> Option<MutexGuard<'_, T>> {
-    for _ in 0..LOOKS {
+    for _ in 0..LOOKS_MAX {
         if let Some(free) = lock.try_lock() {
             return Some(free);
         }

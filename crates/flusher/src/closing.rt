@@ -22,7 +22,7 @@ use crate::{Naming, Post};
 use disk_model::Disk;
 use funnel::PeerName;
 use ledger_core::Note;
-use note_queue::{Joined, QUEUE_ROOM, join};
+use note_queue::{Joined, QUEUE_MAX_NOTES, join};
 use recovery::Tape;
 use std::alloc::{AllocError, Global};
 use std::sync::Wait;
@@ -265,7 +265,7 @@ fn rooms<D: Disk + Drop>(
     let mut rooms = Vec::new(alloc);
     for _ in 0..count {
         let mut notes = Vec::new(alloc);
-        notes.reserve(QUEUE_ROOM)?;
+        notes.reserve(QUEUE_MAX_NOTES)?;
         rooms.push(Room { notes })?;
     }
     Ok((closed, rooms))

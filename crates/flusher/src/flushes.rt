@@ -14,7 +14,7 @@ use std::sync::Wait;
 use std::time::Instant;
 
 // A flush that takes this many seconds or more is logged as slow.
-const SLOW: u64 = 1;
+const SLOW_MIN_SECONDS: u64 = 1;
 
 /// Flushes all stations and the intake tape, for each order and once a second without one, until it is told to end.
 /// Before the flush of an order it drops what exceeds the peers' limits; after each flush it rewrites the tapes for
@@ -146,7 +146,7 @@ impl<D: Disk, N: Naming> Work<D, N> for Flusher<N> {
 // Logs a flush that began at this moment, if it took long.
 fn log_slow<R: Clock + Log>(rt: &R, begun: Instant) {
     if let Ok(passed) = begun.elapsed(rt)
-        && passed.as_secs() >= SLOW
+        && passed.as_secs() >= SLOW_MIN_SECONDS
     {
         info!(rt; "a flush took {} seconds: the disk is slow", passed.as_secs());
     }

@@ -18,7 +18,7 @@ use funnel::FunnelLine;
 use ledger_core::{Debt, Key, Totals};
 use note_queue::Sender;
 use peer_queue::{Owed, Settled, Shed, StationFault};
-use recovery::MOST_PENDING;
+use recovery::PENDING_MAX_NOTES;
 use std::marker::PhantomData;
 use std::sync::ledger::Share;
 
@@ -323,7 +323,7 @@ impl<N: Naming> FrontDesk<N> {
     pub fn pending(&self) -> usize
         ensures { result ≡ pending_of (front_of self.now.seat.sender) }
     {
-        MOST_PENDING - self.seat.sender.front().room()
+        PENDING_MAX_NOTES - self.seat.sender.front().room()
     }
 
     /// How many notes its tape counts once all of them are on it.

@@ -5,7 +5,7 @@ use std::sync::{Mutex, Wait};
 use std::time::Duration;
 
 // The longest time without a flush, in seconds.
-const PERIOD: u64 = 1;
+const FLUSH_PERIOD_SECONDS: u64 = 1;
 
 /// The signals between the threads of a run: orders of a flush, what came of them, and that the end is near.
 ///
@@ -138,7 +138,7 @@ impl Signals {
         let seen = self.changes.load(Ordering::SeqCst);
         if self.orders.load(Ordering::SeqCst) == answered && !self.is_over() {
             self.changes
-                .park_timeout(rt, low(seen), Duration::from_secs(PERIOD));
+                .park_timeout(rt, low(seen), Duration::from_secs(FLUSH_PERIOD_SECONDS));
         }
         if self.is_over() {
             None

@@ -11,12 +11,12 @@ use crate::naming::{
 };
 use crate::share::FeederShare;
 use peer_queue::Settled;
-use recovery::MOST_PENDING;
+use recovery::PENDING_MAX_NOTES;
 use std::marker::Model;
 use std::sync::ledger::{Blank, Book, Ledger, Share};
 
 // The most that one call counts: a station sheds no more than may pend.
-const MOST_AT_ONCE: u64 = MOST_PENDING as u64;
+const COUNTED_MAX_NOTES: u64 = PENDING_MAX_NOTES as u64;
 
 /// The books of one count: that of the workers, and that of the stations.
 #[derive(Drop)]
@@ -42,7 +42,7 @@ impl<W: Ledger, S: AtStations> Books<W, S> {
     pub fn is_full(&self) -> bool
         ensures { IsTrue result ↔ IsCountFull self.now }
     {
-        self.count >= u64::MAX - MOST_AT_ONCE
+        self.count >= u64::MAX - COUNTED_MAX_NOTES
     }
 
     /// Counts this many more, in a worker's share and in a station's.

@@ -4,7 +4,7 @@ ghost use Rattle.std.specs.Prelude.{IfNone, MatchOption, OnOk, OnErr};
 ghost use Rattle.funnel.specs.Stream.{BeginsWithLine, IsUnended, Splits, StandsFor, clipped};
 
 use crate::NoMemory;
-use crate::line::LONGEST_LINE;
+use crate::line::LINE_MAX_OCTETS;
 use memchr::memchr;
 use std::alloc::Global;
 use std::collections::VecDeque;
@@ -12,7 +12,7 @@ use std::marker::Model;
 use std::mem;
 
 // How many octets of a line are kept: one more than a good line may have before its LF.
-const MOST_KEPT: usize = LONGEST_LINE + 1;
+const KEPT_MAX_OCTETS: usize = LINE_MAX_OCTETS + 1;
 
 /// A cutter of a stream of octets into lines, fed in pieces of any size.
 ///
@@ -130,16 +130,16 @@ pub fn first_line(octets: &[u8]) -> Option<(&[u8], &[u8])>
 fn clip(alloc: Global, line: &[u8]) -> Result<Vec<u8>, NoMemory>
     ensures { IfOk result (λ kept. kept.items ≡ clipped line.now) }
 {
-    Vec::from_slice(alloc, &line[..MOST_KEPT.min(line.len())])
+    Vec::from_slice(alloc, &line[..KEPT_MAX_OCTETS.min(line.len())])
 }
 
-// Appends to what is kept of a line, up to `MOST_KEPT` octets.
+// Appends to what is kept of a line, up to `KEPT_MAX_OCTETS` octets.
 fn extend_clipped(kept: &mut Vec<u8>, octets: &[u8]) -> Result<(), NoMemory>
     ensures fed { OnOk result
         ((line : List ℕ) → kept.old.items ≡ clipped line
         → kept.new.items ≡ clipped (line ++ octets.now)) }
     ensures unchanged { OnErr result (kept.new.items ≡ kept.old.items) }
 {
-    let room = MOST_KEPT.saturating_sub(kept.len());
+    let room = KEPT_MAX_OCTETS.saturating_sub(kept.len());
     kept.extend_from_slice(&octets[..room.min(octets.len())])
 }

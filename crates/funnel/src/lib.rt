@@ -17,7 +17,7 @@ mod words;
 
 pub use backlog_line::{read_backlog_line, reads_backlog_once};
 pub use cutter::{LineCutter, first_line, splits_once};
-pub use line::{FunnelLine, LONGEST_LINE, LineFault, read_line, reads_once, without_cr};
+pub use line::{FunnelLine, LINE_MAX_OCTETS, LineFault, read_line, reads_once, without_cr};
 pub use malformed::Malformed;
 pub use names::{Form, MsgId, MsgIdForm, Name, PeerName, PeerNameForm, Token, TokenForm};
 /// Memory was refused.

@@ -97,7 +97,7 @@ pub fn reads_once()
 {}
 
 /// The length of the longest good line, in octets before its LF.
-pub const LONGEST_LINE: usize = 8192;
+pub const LINE_MAX_OCTETS: usize = 8192;
 
 // A good line, cut into its parts.
 #[derive(Clone, Copy)]
@@ -113,7 +113,7 @@ impl<'a> Parts<'a> {
         ensures { MatchResult result (λ p. HasParts line.now p.token.now p.id.now p.others.now)
             (λ fault. IsFaultOf line.now fault) }
     {
-        if line.len() > LONGEST_LINE {
+        if line.len() > LINE_MAX_OCTETS {
             return Err(LineFault::TooLong);
         }
         let Some((token, behind)) = next_word(without_cr(line)) else {

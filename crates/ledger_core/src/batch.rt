@@ -16,13 +16,13 @@ use crate::note::Note;
 use std::alloc::{AllocError, Global};
 
 /// The length of the longest payload of several notes, in octets.
-pub const LONGEST_BATCH: usize = 65536;
+pub const BATCH_MAX_OCTETS: usize = 65536;
 
 // The first octet of a payload of several notes.
 const BATCH: u8 = 11;
 
 // The length of its tag and its count, in octets.
-const HEAD_LEN: usize = 5;
+const HEAD_OCTETS: usize = 5;
 
 /// The one payload of several notes.
 ///
@@ -34,7 +34,7 @@ pub fn encode_batch(alloc: Global, notes: &[Note]) -> Result<Vec<u8>, AllocError
     ensures octets { IfOk result (λ v. v.items ≡ batch_spelling notes.now) }
     ensures several { OnOk result (AreSeveral notes.now) }
 {
-    let mut octets = Vec::with_capacity(alloc, LONGEST_BATCH)?;
+    let mut octets = Vec::with_capacity(alloc, BATCH_MAX_OCTETS)?;
     let count = notes.len() as u32;
     octets.push(BATCH)?;
     octets.extend_from_slice(&count.to_be_bytes())?;
@@ -92,7 +92,7 @@ pub fn joined_len(payload: &[u8], len: usize) -> usize
         → result ≡ length (batch_spelling (batch ++ note ∷ [])) }
     ensures len { result ≡ 5 + length (body_of payload.now) + len }
 {
-    HEAD_LEN + body_of(payload).len() + len
+    HEAD_OCTETS + body_of(payload).len() + len
 }
 
 /// Adds a note to the end of a payload, in place: a note that was alone in it is moved after the tag and the count. The
@@ -124,7 +124,7 @@ fn make_several(payload: &mut Vec<u8>)
         return;
     }
     let _ = payload.extend_from_slice(&[BATCH, 0, 0, 0, 1]);
-    payload.rotate_right(HEAD_LEN);
+    payload.rotate_right(HEAD_OCTETS);
 }
 
 fn raise_count(payload: &mut Vec<u8>)
@@ -134,7 +134,7 @@ fn raise_count(payload: &mut Vec<u8>)
     ensures len { length payload.new.items ≡ length payload.old.items }
     ensures cap { payload.new.cap ≡ payload.old.cap }
 {
-    if payload.len() < HEAD_LEN {
+    if payload.len() < HEAD_OCTETS {
         return;
     }
     let count = u32::from_be_bytes([payload[1], payload[2], payload[3], payload[4]]);
@@ -190,7 +190,7 @@ pub(crate) fn several_in(payload: &[u8]) -> Option<(u32, &[u8])>
     ensures fits { IfSome result (λ found. length found.1.now + 5 ≤ longest_batch) }
     ensures none { IfNone result (SpellsNoBatch payload.now) }
 {
-    if payload.len() > LONGEST_BATCH {
+    if payload.len() > BATCH_MAX_OCTETS {
         return None;
     }
     let (tag, rest) = payload.split_first()?;

@@ -12,7 +12,7 @@ use std::alloc::AllocError;
 use std::cmp::Ordering;
 use std::marker::Model;
 
-const HALF: u64 = 4_294_967_296;
+const TWO_TO_32: u64 = 4_294_967_296;
 
 /// Which debt: the source of its line, and the number of the line in that source, from 1 up.
 ///
@@ -56,8 +56,8 @@ impl Key {
     {
         Key {
             source,
-            high: (number / HALF) as u32,
-            low: (number % HALF) as u32,
+            high: (number / TWO_TO_32) as u32,
+            low: (number % TWO_TO_32) as u32,
         }
     }
 
@@ -79,7 +79,7 @@ impl Key {
     pub fn number(self) -> u64
         ensures { result ≡ number_of self }
     {
-        u64::from(self.high) * HALF + u64::from(self.low)
+        u64::from(self.high) * TWO_TO_32 + u64::from(self.low)
     }
 
     /// Whether it comes before another.

@@ -20,7 +20,7 @@ use std::collections::BTreeMap;
 use thiserror::Error;
 
 // How many octets a record has on a tape before its payload: a gate, and the payload's length.
-const RECORD_HEAD: u64 = 5;
+const RECORD_HEAD_OCTETS: u64 = 5;
 
 /// Why a note is refused. The ledger is unchanged.
 #[derive(Clone, Copy, Debug, PartialEq, Eq, Error)]
@@ -749,7 +749,7 @@ fn import_count(key: Key) -> u64
 pub fn offset_behind(at: u64, payload: &[u8]) -> u64
     ensures { result ≡ min (at + (5 + length payload.now)) (2 ^ 64 - 1) }
 {
-    at.saturating_add(RECORD_HEAD)
+    at.saturating_add(RECORD_HEAD_OCTETS)
         .saturating_add(payload.len() as u64)
 }
 

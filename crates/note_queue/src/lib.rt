@@ -17,7 +17,7 @@ mod splitting;
 
 pub use joined::{Joined, join};
 pub use rejoin::Left;
-pub use rule::{InOrder, NotePass, NoteQueue, PassLog, QUEUE_ROOM, Relays, queue, split_pass};
+pub use rule::{InOrder, NotePass, NoteQueue, PassLog, QUEUE_MAX_NOTES, Relays, queue, split_pass};
 pub use sender::Sender;
 pub use side::Side;
 pub use splitting::split;

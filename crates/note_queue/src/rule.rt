@@ -155,7 +155,7 @@ pub type NoteQueue = RuledArrayQueue<Note, PassLog, InOrder>;
 pub type NotePass = Pass<Note, PassLog>;
 
 /// How many notes a queue holds at most.
-pub const QUEUE_ROOM: usize = 1024;
+pub const QUEUE_MAX_NOTES: usize = 1024;
 
 /// A queue to which nothing was sent yet, and its pass, which may push and pop.
 ///
@@ -165,7 +165,7 @@ pub fn queue(alloc: Global) -> Result<(NoteQueue, NotePass), AllocError>
     ensures room { IfOk result (λ r. ruled_capacity r.0 ≡ 1024) }
     ensures pass { IfOk result (λ r. IsPassOf r.0 r.1 × (view r.1 ≡ begun)) }
 {
-    NoteQueue::ruled(alloc, QUEUE_ROOM)
+    NoteQueue::ruled(alloc, QUEUE_MAX_NOTES)
 }
 
 /// The pass becomes that of this tape's front; the one returned is that of its side.

@@ -13,12 +13,12 @@ ghost use Rattle.recovery.specs.Notes.{most_pending};
 
 use funnel::{MsgId, Token};
 use ledger_core::{Cause, Debt, Key, Note, Outline};
-use recovery::{Flushed, MOST_PENDING, TapeFault};
+use recovery::{Flushed, PENDING_MAX_NOTES, TapeFault};
 use std::alloc::{AllocError, Global};
 use std::collections::VecDeque;
 
 // How many settled notes are kept, so that their texts need not be read from the tape.
-const MOST_LYING: usize = 8192;
+const LYING_MAX_NOTES: usize = 8192;
 
 /// The ledger of a front, without texts, and the notes that it sends to its tape.
 ///
@@ -89,7 +89,7 @@ impl Outbox {
     pub fn room(&self) -> usize
         ensures { result + length (unsettled_in self.now) ≡ most_pending }
     {
-        MOST_PENDING - (self.notes.len() - self.lying)
+        PENDING_MAX_NOTES - (self.notes.len() - self.lying)
     }
 
     /// Takes a note, which pends until it is settled.
@@ -348,7 +348,7 @@ impl Outbox {
         self.sent -= more;
         self.settled += more as u64;
         let lying = self.lying + more;
-        let beyond = lying.saturating_sub(MOST_LYING);
+        let beyond = lying.saturating_sub(LYING_MAX_NOTES);
         forget(&mut self.notes, beyond);
         self.lying = lying - beyond;
     }

@@ -9,11 +9,11 @@ ghost use Rattle.ledger_core.specs.Note.{AreNotes, IsNote};
 ghost use Rattle.ledger_core.specs.Spelling.{spelling};
 ghost use Rattle.std.specs.declared.alloc.Global.{Global};
 
-use ledger_core::{Cause, Key, LONGEST_BATCH, Note, encode, join, joined_len};
+use ledger_core::{BATCH_MAX_OCTETS, Cause, Key, Note, encode, join, joined_len};
 use std::alloc::{AllocError, Global};
 
 // How many octets a payload of several notes has before them.
-const HEAD_LEN: usize = 5;
+const HEAD_OCTETS: usize = 5;
 
 /// Where a note goes that comes after all pending ones.
 #[derive(Clone, Copy)]
@@ -87,7 +87,7 @@ impl Pending {
             → IsTrue result ↔ length (batch_spelling (batch ++ note ∷ [])) ≤ longest_batch }
     {
         match self.payloads.last() {
-            Some(last) => joined_len(last, len) <= LONGEST_BATCH,
+            Some(last) => joined_len(last, len) <= BATCH_MAX_OCTETS,
             None => false,
         }
     }
@@ -115,7 +115,7 @@ impl Pending {
     {
         self.payloads.reserve(1)?;
         match self.payloads.last_mut() {
-            Some(last) => last.reserve(HEAD_LEN + len),
+            Some(last) => last.reserve(HEAD_OCTETS + len),
             None => Ok(()),
         }
     }
@@ -171,7 +171,7 @@ impl Pending {
         PendingPlace {
             at: last,
             slot: count.saturating_sub(1) as u32,
-            within: joined.saturating_sub(HEAD_LEN + len).min(65535) as u16,
+            within: joined.saturating_sub(HEAD_OCTETS + len).min(65535) as u16,
             next: record_behind(last, joined),
         }
     }

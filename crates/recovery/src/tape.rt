@@ -20,13 +20,13 @@ use disk_model::Disk;
 use funnel::{MsgId, Token};
 use ledger_core::{Cause, Key, Ledger, LedgerFault, Note, Outline, Totals, encode, encode_owe};
 use std::alloc::{AllocError, Global};
-use tape_journal::{Journal, LONGEST_SEGMENT, SegmentReader};
+use tape_journal::{Journal, SEGMENT_MAX_OCTETS, SegmentReader};
 
 /// How many notes may be pending.
-pub const MOST_PENDING: usize = 65536;
+pub const PENDING_MAX_NOTES: usize = 65536;
 
 // A rotation is due only for a segment longer than this, in octets.
-const LONG_SEGMENT: u64 = 65536;
+const LONG_SEGMENT_OCTETS: u64 = 65536;
 
 /// Two disks on which no tape was opened, returned as the call left them.
 #[derive(Drop)]
@@ -314,7 +314,7 @@ impl<D: Disk> Tape<D> {
         if let Err(fault) = self.ledger.check(note) {
             return Err(TapeFault::Note(fault));
         }
-        if self.pending.count >= MOST_PENDING {
+        if self.pending.count >= PENDING_MAX_NOTES {
             return Err(TapeFault::PendingFull);
         }
         self.pend(note)
@@ -520,7 +520,7 @@ impl<D: Disk> Tape<D> {
         ensures { IsTrue result ↔ IsDue self.now }
     {
         let bytes = self.segments.live.bytes();
-        bytes > LONG_SEGMENT && bytes > self.rotated_len().saturating_mul(4)
+        bytes > LONG_SEGMENT_OCTETS && bytes > self.rotated_len().saturating_mul(4)
     }
 
     // How long the segment is that a rotation writes, in octets, or more than any disk.
@@ -554,7 +554,7 @@ impl<D: Disk> Tape<D> {
         if self.segments.generation == u64::MAX {
             return Err(TapeFault::GenerationFull);
         }
-        if self.rotated_len() > LONGEST_SEGMENT {
+        if self.rotated_len() > SEGMENT_MAX_OCTETS {
             return Err(TapeFault::TapeFull);
         }
         self.write_anew()
@@ -670,7 +670,7 @@ impl<D: Disk> Tape<D> {
     pub fn room(&self) -> usize
         ensures { result + pending_of self.now ≡ most_pending }
     {
-        MOST_PENDING - self.pending.count
+        PENDING_MAX_NOTES - self.pending.count
     }
 
     /// The disks, the first and the second. Pending notes are gone; a stop leaves of the disks what it could leave of

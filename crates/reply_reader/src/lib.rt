@@ -14,6 +14,6 @@ mod unread;
 
 pub use fault::ReplyFault;
 pub use line::Reply;
-pub use reader::{LONGEST_REPLY, ReplyReader};
+pub use reader::{REPLY_MAX_OCTETS, ReplyReader};
 /// Memory was refused.
 pub use std::alloc::AllocError as NoMemory;

@@ -13,7 +13,7 @@ use std::alloc::Global;
 use std::marker::Model;
 
 /// The length of the longest reply line, in octets, CR and LF included.
-pub const LONGEST_REPLY: usize = 2048;
+pub const REPLY_MAX_OCTETS: usize = 2048;
 
 /// A reader of reply lines, fed in pieces of any size (RFC 3977, section 3.1).
 #[derive(Debug, Drop)]
@@ -122,5 +122,5 @@ fn next_reply(unread: &mut Unread) -> Result<Option<Reply>, ReplyFault>
 fn is_too_many(len: usize) -> bool
     ensures { IsTrue result ↔ (longest_reply ≤ len) }
 {
-    len >= LONGEST_REPLY
+    len >= REPLY_MAX_OCTETS
 }

@@ -7,8 +7,8 @@ ghost use Rattle.tape_journal.specs.Segment.{AllShort, IsShort, at_rest, gated, 
 ghost use Rattle.tape_journal.specs.Segment.{records};
 
 use crate::append::{are_short, records_len};
-use crate::journal::LONGEST_SEGMENT;
-use crate::read::{LONGEST_PAYLOAD, OPEN};
+use crate::journal::SEGMENT_MAX_OCTETS;
+use crate::read::{OPEN, PAYLOAD_MAX_OCTETS};
 use crate::{GatherFault, JournalFault, RenewFault};
 use std::alloc::{AllocError, Global};
 
@@ -47,7 +47,7 @@ impl Gathered {
         ensures too_long { IsErrOf result GatherFault.PayloadTooLong
             ↔ (IsShort payload.now → ⊥) }
     {
-        if payload.len() > LONGEST_PAYLOAD as usize {
+        if payload.len() > PAYLOAD_MAX_OCTETS as usize {
             return Err(GatherFault::PayloadTooLong);
         }
         let len = self.octets.len();
@@ -82,7 +82,7 @@ impl Gathered {
             return Err(JournalFault::PayloadTooLong);
         }
         let octets = records_len(payloads);
-        if octets >= LONGEST_SEGMENT {
+        if octets >= SEGMENT_MAX_OCTETS {
             return Err(JournalFault::TapeFull);
         }
         let mut gathered = Gathered::with_room(alloc, octets as usize)?;
@@ -107,7 +107,7 @@ impl Gathered {
     {
         let Gathered { mut octets } = self;
         let end = octets.len() as u64;
-        if end >= LONGEST_SEGMENT {
+        if end >= SEGMENT_MAX_OCTETS {
             return Err(RenewFault::TapeFull);
         }
         octets.push(0)?;

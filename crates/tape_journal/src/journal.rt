@@ -14,7 +14,7 @@ use disk_model::Disk;
 use std::alloc::{AllocError, Global};
 
 /// The longest segment, in octets, with its end gate.
-pub const LONGEST_SEGMENT: u64 = 4294967296;
+pub const SEGMENT_MAX_OCTETS: u64 = 4294967296;
 
 /// A disk on which there is no journal, handed back as the call left it: it was not opened, or not renewed.
 #[derive(Drop)]
@@ -148,7 +148,7 @@ impl<D: Disk> Journal<D> {
             return Err(AppendFault::PayloadTooLong);
         }
         let added = records_len(payloads);
-        if self.end.saturating_add(1).saturating_add(added) > LONGEST_SEGMENT {
+        if self.end.saturating_add(1).saturating_add(added) > SEGMENT_MAX_OCTETS {
             return Err(AppendFault::TapeFull);
         }
         Ok(added)

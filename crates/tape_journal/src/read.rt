@@ -17,10 +17,10 @@ use std::alloc::Global;
 pub(crate) const OPEN: u8 = 0xa5;
 
 /// The longest payload, in octets.
-pub const LONGEST_PAYLOAD: u32 = 16777216;
+pub const PAYLOAD_MAX_OCTETS: u32 = 16777216;
 
 // How many octets a record has before its payload: the gate and the payload's length.
-pub(crate) const RECORD_HEAD: u64 = 5;
+pub(crate) const RECORD_HEAD_OCTETS: u64 = 5;
 
 // What stands where a record or the end of a segment is to stand.
 #[derive(Clone, Copy)]
@@ -77,11 +77,11 @@ fn head_of(octets: &[u8], left: u64) -> Head
     if octets[0] != OPEN || left == 1 {
         return Head::End;
     }
-    if left < RECORD_HEAD {
+    if left < RECORD_HEAD_OCTETS {
         return Head::CutShort;
     }
     let size = number_of(&octets[1..]);
-    if size > LONGEST_PAYLOAD || u64::from(size) > left - RECORD_HEAD {
+    if size > PAYLOAD_MAX_OCTETS || u64::from(size) > left - RECORD_HEAD_OCTETS {
         return Head::CutShort;
     }
     Head::Record(size)
@@ -111,7 +111,7 @@ pub(crate) fn head_at<D: Disk>(
 {
     let left = len - at;
     let mut octets = [0u8; 5];
-    let first = &mut octets[..left.min(RECORD_HEAD) as usize];
+    let first = &mut octets[..left.min(RECORD_HEAD_OCTETS) as usize];
     window.fill(disk, at, first)?;
     Ok(head_of(first, left))
 }
@@ -145,7 +145,7 @@ pub(crate) fn record_at<D: Disk>(
         Head::End => Ok(None),
         Head::CutShort => Err(OpenFault::Damaged { at }),
         Head::Record(size) => {
-            let payload = octets_at(alloc, window, disk, at + RECORD_HEAD, size as usize)?;
+            let payload = octets_at(alloc, window, disk, at + RECORD_HEAD_OCTETS, size as usize)?;
             Ok(Some(payload))
         }
     }
@@ -185,7 +185,7 @@ pub(crate) fn part_of<D: Disk>(
     };
     let start = from.min(size);
     let count = most.min(size - start);
-    let behind = at + RECORD_HEAD + u64::from(start);
+    let behind = at + RECORD_HEAD_OCTETS + u64::from(start);
     let part = octets_at(alloc, window, disk, behind, count as usize)?;
     Ok(Some(part))
 }
@@ -218,7 +218,7 @@ pub(crate) fn payloads_of<D: Disk>(
         match record_at(alloc, &mut window, disk, end, len)? {
             None => return Ok((payloads, end)),
             Some(payload) => {
-                end += RECORD_HEAD + payload.len() as u64;
+                end += RECORD_HEAD_OCTETS + payload.len() as u64;
                 payloads.push(payload)?;
             }
         }

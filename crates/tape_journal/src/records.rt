@@ -4,21 +4,21 @@ ghost use Rattle.disk_model.specs.Disk.{content};
 ghost use Rattle.tape_journal.specs.Given.{longest_given};
 ghost use Rattle.tape_journal.specs.Window.{held_by, room_of, shown_by, start_of};
 
-use crate::read::{Head, RECORD_HEAD, head_at};
+use crate::read::{Head, RECORD_HEAD_OCTETS, head_at};
 use crate::window::Window;
 use crate::{JournalFault, OpenFault, Refused, Unrepaired};
 use disk_model::Disk;
 use std::alloc::Global;
 
 /// The longest payload that [`SegmentReader::next`] gives, in octets.
-pub const LONGEST_GIVEN: u32 = 65536;
+pub const GIVEN_MAX_OCTETS: u32 = 65536;
 
 /// A payload, as it is read.
 #[derive(Clone, Copy)]
 pub enum ReadPayload<'a> {
     /// Its octets.
     Octets(&'a [u8]),
-    /// It is longer than [`LONGEST_GIVEN`], and was passed over.
+    /// It is longer than [`GIVEN_MAX_OCTETS`], and was passed over.
     TooLong,
 }
 
@@ -85,7 +85,7 @@ impl<D: Disk> SegmentReader<D> {
         }
     }
 
-    /// Reads the next record; `None` if the segment ends there. A payload of more than [`LONGEST_GIVEN`] octets is
+    /// Reads the next record; `None` if the segment ends there. A payload of more than [`GIVEN_MAX_OCTETS`] octets is
     /// passed over.
     ///
     /// # Errors
@@ -144,18 +144,18 @@ impl<D: Disk> SegmentReader<D> {
         ensures no_memory { IsErrOf result OpenFault.NoMemory → ⊥ }
         ensures keeps { KeepsDisk self.old self.new result }
     {
-        let end = self.at + RECORD_HEAD + u64::from(size);
+        let end = self.at + RECORD_HEAD_OCTETS + u64::from(size);
         if end == self.len {
             return Err(OpenFault::Damaged { at: end });
         }
-        if size > LONGEST_GIVEN {
+        if size > GIVEN_MAX_OCTETS {
             self.at = end;
             return Ok(ReaderStep::TooLong);
         }
         let count = size as usize;
         let from = self
             .window
-            .hold(&mut self.disk, self.at + RECORD_HEAD, count)?;
+            .hold(&mut self.disk, self.at + RECORD_HEAD_OCTETS, count)?;
         self.at = end;
         Ok(ReaderStep::Held { from, count })
     }

@@ -4,7 +4,7 @@ use std::sync::atomic::{AtomicBool, Ordering};
 use std::thread;
 
 // How many turns one that waits takes at most, so that a test ends, and how often others go before it in a turn.
-const MOST_TURNS: u32 = 10_000;
+const TURNS_MAX: u32 = 10_000;
 
 const YIELDS: u32 = 1_000;
 
@@ -45,7 +45,7 @@ impl Meeting {
     }
 
     fn wait_for(&self, came: &AtomicBool) {
-        for _ in 0..MOST_TURNS {
+        for _ in 0..TURNS_MAX {
             if came.load(Ordering::SeqCst) {
                 return;
             }

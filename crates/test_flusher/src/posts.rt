@@ -199,7 +199,7 @@ fn what_is_not_sent_comes_again(rt: HostRuntime) -> Result<(), Fail> {
 // How many notes may pend at a station, and half of them.
 const MOST: u64 = 65_536;
 
-const HALF: u64 = 32_768;
+const HALF_FULL_NOTES: u64 = 32_768;
 
 // What comes of lines that fill the station of q, and of one line for p and q after them.
 #[derive(Clone, Copy, Debug, PartialEq, Eq)]
@@ -249,10 +249,10 @@ fn fill<D: Disk + Drop, N: Naming, R: Wait>(
     let mut half = (false, false, false);
     for number in 1..=MOST {
         take(rt, &post, b"a/1 <x@y> q", &mut lines)?;
-        if number == HALF - 1 {
+        if number == HALF_FULL_NOTES - 1 {
             half.0 = post.take_half_full(1);
         }
-        if number == HALF {
+        if number == HALF_FULL_NOTES {
             half.1 = post.take_half_full(1);
         }
     }

@@ -25,7 +25,7 @@ use std::thread;
 use std::thread::Threads;
 
 // How often room is asked for, so that a test ends.
-const MOST_LOOKS: u32 = 1_000_000;
+const LOOKS_MAX: u32 = 1_000_000;
 
 const NOT_WANTED: Settled = Settled::Answered(FinalCode::CheckNotWanted);
 
@@ -119,7 +119,7 @@ impl<D: Disk, N: Naming> Work<D, N> for Hand<N> {
 fn room_taken<D: Disk, N: Naming>(post: &Post<D, N>) -> u64
     requires { 0 < length post.now.names }
 {
-    for _ in 0..MOST_LOOKS {
+    for _ in 0..LOOKS_MAX {
         match post.try_take_room(0, 1) {
             Some(true) => return 1,
             Some(false) => return 0,

@@ -2,7 +2,7 @@
 use crate::shared::{PLACE, Relay, taken_on_disks};
 use disk_model::{FuseDisk, MemDisk};
 use ledger_core::{Key, Note};
-use note_queue::QUEUE_ROOM;
+use note_queue::QUEUE_MAX_NOTES;
 use recovery::TapeFault;
 use std::rt::HostRuntime;
 use std::test::Fail;
@@ -41,7 +41,7 @@ fn what_is_on_its_way_comes_out_at_the_join(rt: HostRuntime) -> Result<(), Fail>
     assert_eq!(rt; joined.front.totals().taken, 1500);
     assert_eq!(rt; joined.kept.is_none(), true);
     assert_eq!(rt; key_of(joined.queued.first()), Some(Key::new(0, 11)));
-    assert_eq!(rt; joined.queued.len(), QUEUE_ROOM);
+    assert_eq!(rt; joined.queued.len(), QUEUE_MAX_NOTES);
     assert_eq!(rt; key_of(joined.front.next_unsent()), Some(Key::new(0, 1035)));
     assert_eq!(rt; taken_on_disks(alloc, joined.tape)?, 10);
     Ok(())

@@ -8,7 +8,7 @@ ghost use Rattle.peer_queue.specs.Words.{IsBroken, pending_of, tape_of};
 
 use disk_model::Disk;
 use funnel::{MsgId, Token};
-use note_queue::{Joined, NoteQueue, QUEUE_ROOM, Sender, Side, join, queue, split};
+use note_queue::{Joined, NoteQueue, QUEUE_MAX_NOTES, Sender, Side, join, queue, split};
 use peer_queue::{Limits, Station};
 use recovery::{Flushed, Tape, TapeFault};
 use std::alloc::Global;
@@ -102,7 +102,7 @@ impl<D: Disk + Drop> Relay<D> {
 
     /// What is left of the two ends.
     pub(crate) fn join<R: Wait>(self, rt: &R, alloc: Global) -> Result<Joined<D>, Fail> {
-        let room = Vec::with_capacity(alloc, QUEUE_ROOM)?;
+        let room = Vec::with_capacity(alloc, QUEUE_MAX_NOTES)?;
         let Relay {
             queue,
             sender,

@@ -20,7 +20,7 @@ const LINES: u64 = 5000;
 const SETTLED: u64 = 3000;
 
 // How often each looks for the other at most, so that the test ends.
-const MOST_LOOKS: u32 = 1_000_000;
+const LOOKS_MAX: u32 = 1_000_000;
 
 #[test]
 fn what_was_settled_is_on_the_tape(rt: HostRuntime) -> Result<(), Fail> {
@@ -128,7 +128,7 @@ fn heard_enough<R: Wait>(
     requires { IsAt queue.now (sending sender.old) }
     ensures { IsAt queue.now (sending sender.new) }
 {
-    for _ in 0..MOST_LOOKS {
+    for _ in 0..LOOKS_MAX {
         sender.send(rt, queue)?;
         if let Some(flushed) = last.lock(rt).take() {
             if !sender.settled(&flushed) {
@@ -154,7 +154,7 @@ fn flushed<R: Wait>(
     ensures { IfOk result (λ side. IsAt queue.now (taking side)) }
 {
     let mut side = side;
-    for _ in 0..MOST_LOOKS {
+    for _ in 0..LOOKS_MAX {
         side.pull(rt, queue)?;
         let flushed = side.flush()?;
         *last.lock(rt) = Some(flushed);

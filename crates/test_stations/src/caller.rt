@@ -1,7 +1,7 @@
 // Steps of a script: what is done to a station or by its peer, with the answer that is wanted.
 use crate::shared::{
-    LATER, Place, all_in_rows, article, assert_same, connection, funnel_key, hand, in_rows, input,
-    key_in_rows, names, offer, told,
+    LATER, RowPlace, all_in_rows, article, assert_same, connection, funnel_key, hand, in_rows,
+    input, key_in_rows, names, offer, told,
 };
 use conn_core::{Conn, CxnId, Outcome};
 use disk_model::{Disk, FuseDisk, MemDisk};
@@ -97,7 +97,7 @@ pub(crate) enum Step {
 
 // How the disks of a station are opened again.
 #[derive(Clone, Copy)]
-pub(crate) enum Opening {
+pub(crate) enum Reopening {
     // As they are, with these limits.
     Again(Limits),
     // With these limits; from the opening on, the first disk passes this many calls. The tape owes three debts there.
@@ -116,7 +116,7 @@ pub(crate) struct Script {
     pub(crate) owed: u64,
     pub(crate) limits: Limits,
     pub(crate) steps: &'static [Step],
-    pub(crate) opened: &'static [(Opening, &'static [Step])],
+    pub(crate) opened: &'static [(Reopening, &'static [Step])],
     pub(crate) tape: Option<(&'static [u8], &'static [u8])>,
 }
 
@@ -126,7 +126,7 @@ pub(crate) struct Caller {
     alloc: Global,
     station: Station<FuseDisk<MemDisk>>,
     held: Vec<Outcome>,
-    place: Place,
+    place: RowPlace,
 }
 
 // The caller of the station on these disks, which pass this many calls.
@@ -135,7 +135,7 @@ fn open(
     (a, b): (MemDisk, MemDisk),
     (first, second): Calls,
     limits: Limits,
-    place: Place,
+    place: RowPlace,
 ) -> Result<Caller, Fail> {
     match Station::open(
         alloc,
@@ -148,7 +148,7 @@ fn open(
     }
 }
 
-fn calling(alloc: Global, station: Station<FuseDisk<MemDisk>>, place: Place) -> Caller {
+fn calling(alloc: Global, station: Station<FuseDisk<MemDisk>>, place: RowPlace) -> Caller {
     Caller {
         alloc,
         station,
@@ -164,7 +164,7 @@ pub(crate) fn begin(
     limits: Limits,
 ) -> Result<Caller, Fail> {
     let disks = (MemDisk::new(alloc), MemDisk::new(alloc));
-    let mut caller = open(alloc, disks, NO_FUSE, limits, Place::first(name))?;
+    let mut caller = open(alloc, disks, NO_FUSE, limits, RowPlace::first(name))?;
     let (token, id) = names(alloc, b"<x@y>")?;
     for number in 0..owed {
         owe(&mut caller.station, number.saturating_add(1), &token, &id)?;
@@ -178,20 +178,20 @@ fn disks_of(caller: Caller) -> (MemDisk, MemDisk) {
 }
 
 // The caller with the same disks, opened again.
-fn opened_again(caller: Caller, opening: Opening) -> Result<Caller, Fail> {
+fn opened_again(caller: Caller, opening: Reopening) -> Result<Caller, Fail> {
     let alloc = caller.alloc;
     let place = caller.place;
     match opening {
-        Opening::Again(limits) => open(alloc, disks_of(caller), NO_FUSE, limits, place),
-        Opening::Fused(limits, calls) => {
+        Reopening::Again(limits) => open(alloc, disks_of(caller), NO_FUSE, limits, place),
+        Reopening::Fused(limits, calls) => {
             let calls = (calls.saturating_add(OPENING_CALLS), u64::MAX);
             open(alloc, disks_of(caller), calls, limits, place)
         }
-        Opening::OtherFused(limits, calls) => {
+        Reopening::OtherFused(limits, calls) => {
             let calls = (u64::MAX, calls.saturating_add(OTHER_CALLS));
             open(alloc, disks_of(caller), calls, limits, place)
         }
-        Opening::Flushed => match reopened(alloc, caller.station) {
+        Reopening::Flushed => match reopened(alloc, caller.station) {
             Ok(station) => Ok(calling(alloc, station, place)),
             Err((_, fault)) => Err(Fail::from(fault)),
         },
@@ -239,7 +239,7 @@ fn assert_tape<A: Abort>(rt: &A, caller: Caller, want: (&[u8], &[u8])) -> Result
 pub(crate) fn assert_octets<A: Abort>(
     rt: &A,
     alloc: Global,
-    place: Place,
+    place: RowPlace,
     (mut a, mut b): (MemDisk, MemDisk),
     (first, second): (&[u8], &[u8]),
 ) -> Result<(), Fail> {
@@ -419,7 +419,7 @@ fn is_of_line(debt: &Debt) -> bool {
 }
 
 // The number of a debt's key, as rows write it, 0 for none.
-fn told_number<A: Abort>(rt: &A, place: Place, debt: &Option<Debt>) -> u64 {
+fn told_number<A: Abort>(rt: &A, place: RowPlace, debt: &Option<Debt>) -> u64 {
     match debt {
         Some(debt) => {
             assert_same(rt, place, &is_of_line(debt), &true);
@@ -480,7 +480,7 @@ fn offered(alloc: Global, debt: Debt, line: &[u8]) -> Result<Conn, Fail> {
 fn send<A: Abort>(
     rt: &A,
     alloc: Global,
-    place: Place,
+    place: RowPlace,
     conn: &mut Conn,
     key: Key,
 ) -> Result<(), Fail> {
@@ -494,7 +494,7 @@ fn send<A: Abort>(
 fn answered<A: Abort>(
     rt: &A,
     alloc: Global,
-    place: Place,
+    place: RowPlace,
     debt: Debt,
     line: &[u8],
 ) -> Result<Outcome, Fail> {

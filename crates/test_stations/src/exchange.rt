@@ -1,8 +1,8 @@
 // Steps of an exchange: what a feeder or its peer does at one connection, or what the connection is asked, with the
 // answer that is wanted.
 use crate::shared::{
-    Place, article, assert_same, connection, funnel_key, hand, in_rows, input, key_in_rows, names,
-    offer, told,
+    RowPlace, article, assert_same, connection, funnel_key, hand, in_rows, input, key_in_rows,
+    names, offer, told,
 };
 use article_store::Found;
 use conn_core::{ArticleFault, Conn, CxnId, Mode, OfferFault, Ready, Reason};
@@ -109,7 +109,7 @@ pub(crate) struct Exchange {
     alloc: Global,
     conn: Conn,
     wire: Wire,
-    place: Place,
+    place: RowPlace,
 }
 
 pub(crate) fn begin<A: Abort>(
@@ -122,7 +122,7 @@ pub(crate) fn begin<A: Abort>(
         alloc,
         conn: connection(alloc, NUMBER, row.streaming)?,
         wire,
-        place: Place::first(row.name),
+        place: RowPlace::first(row.name),
     };
     play(rt, &mut exchange, row.start)?;
     Ok(exchange)

@@ -1,6 +1,6 @@
 // Fronts of stations that were split. The test copies their notes to their tapes itself.
 use crate::caller::{NOT_HELD, ONE, OTHER, SMALL, UNLIMITED};
-use crate::shared::{Place, assert_same, funnel_key, in_rows, key_in_rows, names};
+use crate::shared::{RowPlace, assert_same, funnel_key, in_rows, key_in_rows, names};
 use conn_core::CxnId;
 use disk_model::MemDisk;
 use ledger_core::{Cause, Debt, Key, Totals};
@@ -63,7 +63,7 @@ struct FrontAndTape {
     front: Front,
     tape: Tape<MemDisk>,
     last: Option<Flushed>,
-    place: Place,
+    place: RowPlace,
 }
 
 fn open(alloc: Global, limits: Limits) -> Result<Station<MemDisk>, Fail> {
@@ -99,7 +99,7 @@ fn begin(alloc: Global, script: Script) -> Result<FrontAndTape, Fail> {
         front,
         tape,
         last: None,
-        place: Place::first(script.name),
+        place: RowPlace::first(script.name),
     })
 }
 
@@ -471,7 +471,7 @@ fn no_more_than_so_many_notes_pend(rt: HostRuntime) -> Result<(), Fail> {
 
 // The answer of a flush of another tape settles nothing.
 fn settle_by_other<A: Abort>(rt: &A, alloc: Global) -> Result<(), Fail> {
-    let place = Place::first("a flush of another tape");
+    let place = RowPlace::first("a flush of another tape");
     let (mut front, _tape) = split(open(alloc, UNLIMITED)?, 1)?;
     let (_front, mut tape) = split(open(alloc, UNLIMITED)?, 2)?;
     let flushed = tape.flush()?;

@@ -1,8 +1,8 @@
 // Scripts of stations that are opened again, rotated, or stopped in a flush. Each debt has ten octets.
 use crate::caller::{
-    NOT_HELD, ONE, OTHER, Opening, SMALL, Script, Step, UNLIMITED, assert_octets, play_scripts,
+    NOT_HELD, ONE, OTHER, Reopening, SMALL, Script, Step, UNLIMITED, assert_octets, play_scripts,
 };
-use crate::shared::{Place, assert_same};
+use crate::shared::{RowPlace, assert_same};
 use disk_model::{Disk, MemDisk};
 use peer_queue::{Limits, Owed, Station, StationFault};
 use recovery::{RefusedTape, TapeFault};
@@ -65,7 +65,7 @@ const REOPENING: &[Script] = &[
             Step::Mark(4),
         ],
         opened: &[(
-            Opening::Again(UNLIMITED),
+            Reopening::Again(UNLIMITED),
             &[
                 Step::Mark(3),
                 Step::Release(ONE, 0),
@@ -84,7 +84,7 @@ const REOPENING: &[Script] = &[
         limits: SMALL,
         steps: &[Step::Claim(ONE, 0, Ok(1)), Step::Totals(2, 0, 0, 2)],
         opened: &[(
-            Opening::Flushed,
+            Reopening::Flushed,
             &[
                 Step::Totals(2, 0, 0, 2),
                 Step::Owe(3, Ok(Owed::New)),
@@ -100,7 +100,7 @@ const REOPENING: &[Script] = &[
         steps: &[Step::Flush(Ok(3))],
         opened: &[(
             // Each claim reads with two calls.
-            Opening::Fused(SMALL, 6),
+            Reopening::Fused(SMALL, 6),
             &[
                 Step::Claim(ONE, 0, Ok(1)),
                 Step::Claim(ONE, 0, Ok(2)),
@@ -134,7 +134,7 @@ const REOPENING: &[Script] = &[
         opened: &[
             (
                 // The claim reads with two calls.
-                Opening::Fused(UNLIMITED, 2),
+                Reopening::Fused(UNLIMITED, 2),
                 &[
                     Step::Owe(4, Ok(Owed::New)),
                     Step::Claim(ONE, 0, Ok(1)),
@@ -146,7 +146,7 @@ const REOPENING: &[Script] = &[
                     Step::List(&[1, 2, 3, 4]),
                 ],
             ),
-            (Opening::Again(UNLIMITED), &[Step::List(&[1, 2, 3])]),
+            (Reopening::Again(UNLIMITED), &[Step::List(&[1, 2, 3])]),
         ],
         tape: None,
     },
@@ -172,7 +172,7 @@ const REOPENING: &[Script] = &[
             Step::Totals(10, 2, 5, 3),
             Step::List(&[5, 9, 10]),
         ],
-        opened: &[(Opening::Again(MIXED), &[Step::Totals(10, 2, 5, 3)])],
+        opened: &[(Reopening::Again(MIXED), &[Step::Totals(10, 2, 5, 3)])],
         tape: None,
     },
 ];
@@ -207,8 +207,8 @@ const READING: &[Script] = &[
         limits: UNLIMITED,
         steps: &[Step::Flush(Ok(3))],
         opened: &[
-            (Opening::Fused(UNLIMITED, 0), CANNOT_READ),
-            (Opening::Again(UNLIMITED), READS_AGAIN),
+            (Reopening::Fused(UNLIMITED, 0), CANNOT_READ),
+            (Reopening::Again(UNLIMITED), READS_AGAIN),
         ],
         tape: None,
     },
@@ -218,8 +218,8 @@ const READING: &[Script] = &[
         limits: UNLIMITED,
         steps: &[Step::Flush(Ok(3))],
         opened: &[
-            (Opening::Fused(UNLIMITED, 1), CANNOT_READ),
-            (Opening::Again(UNLIMITED), READS_AGAIN),
+            (Reopening::Fused(UNLIMITED, 1), CANNOT_READ),
+            (Reopening::Again(UNLIMITED), READS_AGAIN),
         ],
         tape: None,
     },
@@ -230,7 +230,7 @@ const READING: &[Script] = &[
         steps: &[Step::Flush(Ok(3))],
         opened: &[
             (
-                Opening::Fused(UNLIMITED, 0),
+                Reopening::Fused(UNLIMITED, 0),
                 &[
                     Step::Rotate(Err(DISK)),
                     Step::Rotate(Err(BROKEN)),
@@ -238,7 +238,7 @@ const READING: &[Script] = &[
                     Step::Totals(3, 0, 0, 3),
                 ],
             ),
-            (Opening::Again(UNLIMITED), READS_AGAIN),
+            (Reopening::Again(UNLIMITED), READS_AGAIN),
         ],
         tape: None,
     },
@@ -269,7 +269,7 @@ const READING: &[Script] = &[
             Step::Debt(5, Ok(5)),
         ],
         opened: &[(
-            Opening::Again(UNLIMITED),
+            Reopening::Again(UNLIMITED),
             &[
                 Step::List(&[2, 3, 4, 5]),
                 Step::Debt(2, Ok(2)),
@@ -302,8 +302,8 @@ const CUT: &[Script] = &[
         limits: UNLIMITED,
         steps: &[Step::Flush(Ok(3))],
         opened: &[
-            (Opening::Fused(UNLIMITED, 0), FAILS),
-            (Opening::Again(UNLIMITED), KEEPS),
+            (Reopening::Fused(UNLIMITED, 0), FAILS),
+            (Reopening::Again(UNLIMITED), KEEPS),
         ],
         tape: None,
     },
@@ -313,8 +313,8 @@ const CUT: &[Script] = &[
         limits: UNLIMITED,
         steps: &[Step::Flush(Ok(3))],
         opened: &[
-            (Opening::Fused(UNLIMITED, 1), FAILS),
-            (Opening::Again(UNLIMITED), KEEPS),
+            (Reopening::Fused(UNLIMITED, 1), FAILS),
+            (Reopening::Again(UNLIMITED), KEEPS),
         ],
         tape: None,
     },
@@ -324,8 +324,8 @@ const CUT: &[Script] = &[
         limits: UNLIMITED,
         steps: &[Step::Flush(Ok(3))],
         opened: &[
-            (Opening::Fused(UNLIMITED, 2), FAILS),
-            (Opening::Again(UNLIMITED), KEEPS),
+            (Reopening::Fused(UNLIMITED, 2), FAILS),
+            (Reopening::Again(UNLIMITED), KEEPS),
         ],
         tape: None,
     },
@@ -335,8 +335,8 @@ const CUT: &[Script] = &[
         limits: UNLIMITED,
         steps: &[Step::Flush(Ok(3))],
         opened: &[
-            (Opening::Fused(UNLIMITED, 3), FAILS),
-            (Opening::Again(UNLIMITED), KEEPS),
+            (Reopening::Fused(UNLIMITED, 3), FAILS),
+            (Reopening::Again(UNLIMITED), KEEPS),
         ],
         tape: None,
     },
@@ -347,7 +347,7 @@ const CUT: &[Script] = &[
         steps: &[Step::Flush(Ok(3))],
         opened: &[
             (
-                Opening::Fused(UNLIMITED, 4),
+                Reopening::Fused(UNLIMITED, 4),
                 &[
                     Step::Owe(4, Ok(Owed::New)),
                     Step::Owe(5, Ok(Owed::New)),
@@ -356,7 +356,7 @@ const CUT: &[Script] = &[
                     Step::Flush(Err(DISK)),
                 ],
             ),
-            (Opening::Again(UNLIMITED), &[Step::List(&[1, 2, 3, 4, 5])]),
+            (Reopening::Again(UNLIMITED), &[Step::List(&[1, 2, 3, 4, 5])]),
         ],
         tape: None,
     },
@@ -408,7 +408,7 @@ const ROTATING: &[Script] = &[
             Step::Claim(OTHER, 60, Ok(3)),
         ],
         opened: &[(
-            Opening::Again(UNLIMITED),
+            Reopening::Again(UNLIMITED),
             &[
                 Step::Totals(5, 1, 1, 3),
                 Step::Mark(5),
@@ -442,8 +442,8 @@ const ROTATING: &[Script] = &[
         limits: UNLIMITED,
         steps: &[Step::Flush(Ok(3))],
         opened: &[
-            (Opening::OtherFused(UNLIMITED, 0), FAILS_TO_ROTATE),
-            (Opening::Again(UNLIMITED), KEEPS_FOUR),
+            (Reopening::OtherFused(UNLIMITED, 0), FAILS_TO_ROTATE),
+            (Reopening::Again(UNLIMITED), KEEPS_FOUR),
         ],
         tape: None,
     },
@@ -453,8 +453,8 @@ const ROTATING: &[Script] = &[
         limits: UNLIMITED,
         steps: &[Step::Flush(Ok(3))],
         opened: &[
-            (Opening::OtherFused(UNLIMITED, 7), FAILS_TO_ROTATE),
-            (Opening::Again(UNLIMITED), KEEPS_FOUR),
+            (Reopening::OtherFused(UNLIMITED, 7), FAILS_TO_ROTATE),
+            (Reopening::Again(UNLIMITED), KEEPS_FOUR),
         ],
         tape: None,
     },
@@ -465,7 +465,7 @@ const ROTATING: &[Script] = &[
         steps: &[Step::Flush(Ok(3))],
         opened: &[
             (
-                Opening::OtherFused(UNLIMITED, 8),
+                Reopening::OtherFused(UNLIMITED, 8),
                 &[
                     Step::Owe(4, Ok(Owed::New)),
                     Step::Rotate(Ok(1)),
@@ -474,7 +474,7 @@ const ROTATING: &[Script] = &[
                 ],
             ),
             (
-                Opening::Again(UNLIMITED),
+                Reopening::Again(UNLIMITED),
                 &[Step::ListBetween(&[1, 2, 3, 4], &[1, 2, 3, 4, 5])],
             ),
         ],
@@ -525,7 +525,7 @@ fn assert_damaged<A: Abort>(
     if fault == TapeFault::NoMemory {
         return Err(Fail::from(fault));
     }
-    let place = Place::first("damaged disks are handed back");
+    let place = RowPlace::first("damaged disks are handed back");
     assert_same(rt, place, &fault, &TapeFault::Damaged { segment, at });
     assert_octets(rt, alloc, place, (a, b), (first, second))
 }

@@ -33,18 +33,18 @@ pub(crate) const SOURCE: u64 = 4_294_967_296;
 
 // Where in the rows a comparison is: the row, and the step in it.
 #[derive(Clone, Copy)]
-pub(crate) struct Place {
+pub(crate) struct RowPlace {
     pub(crate) row: &'static str,
     pub(crate) step: u64,
 }
 
-impl Place {
+impl RowPlace {
     pub(crate) fn first(row: &'static str) -> Self {
-        Place { row, step: 0 }
+        RowPlace { row, step: 0 }
     }
 
     pub(crate) fn next(self) -> Self {
-        Place {
+        RowPlace {
             step: self.step.saturating_add(1),
             ..self
         }
@@ -53,7 +53,7 @@ impl Place {
 
 pub(crate) fn assert_same<A: Abort, T: PartialEq + Debug>(
     rt: &A,
-    place: Place,
+    place: RowPlace,
     told: &T,
     want: &T,
 ) {

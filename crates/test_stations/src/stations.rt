@@ -1,6 +1,6 @@
 // Scripts of stations. Each debt has ten octets.
 use crate::caller::{
-    NOT_HELD, ONE, OTHER, Opening, SMALL, Script, Step, UNLIMITED, begin, play, play_script,
+    NOT_HELD, ONE, OTHER, Reopening, SMALL, Script, Step, UNLIMITED, begin, play, play_script,
     play_scripts,
 };
 use crate::shared::SOURCE;
@@ -13,7 +13,7 @@ use std::process::Abort;
 use std::test::Fail;
 
 // How many notes may pend.
-const MOST_PENDING: u64 = 65536;
+const PENDING_MAX_NOTES: u64 = 65536;
 
 // Room for two more notes.
 const NEARLY_FULL: u64 = 65534;
@@ -343,7 +343,7 @@ const PUTTING_OFF: &[Script] = &[
             Step::PutOff(ONE, 1, u64::MAX, Ok(())),
             Step::Claim(ONE, 0, Ok(0)),
         ],
-        opened: &[(Opening::Flushed, &[Step::Claim(ONE, 0, Ok(1))])],
+        opened: &[(Reopening::Flushed, &[Step::Claim(ONE, 0, Ok(1))])],
         tape: None,
     },
 ];
@@ -487,7 +487,7 @@ const IMPORTING: &[Script] = &[
         ],
         opened: &[
             (
-                Opening::Again(UNLIMITED),
+                Reopening::Again(UNLIMITED),
                 &[
                     Step::Imported(0, 1),
                     Step::Import(1, Ok(Owed::Already)),
@@ -498,7 +498,7 @@ const IMPORTING: &[Script] = &[
                 ],
             ),
             (
-                Opening::Again(UNLIMITED),
+                Reopening::Again(UNLIMITED),
                 &[
                     Step::Imported(1, 0),
                     Step::Import(1, Ok(Owed::New)),
@@ -525,7 +525,7 @@ const IMPORTING: &[Script] = &[
 
 const FINISHED_WITHOUT_ROOM: Script = Script {
     name: "only what ends a debt wants room",
-    owed: MOST_PENDING,
+    owed: PENDING_MAX_NOTES,
     limits: UNLIMITED,
     steps: &[
         Step::Claim(ONE, 0, Ok(1)),
@@ -541,7 +541,7 @@ const FINISHED_WITHOUT_ROOM: Script = Script {
         Step::Finish(ONE, 4, 0, Ok(Settled::Ready)),
         Step::Claim(ONE, 0, Ok(4)),
         Step::PutOff(ONE, 4, 60, Ok(())),
-        Step::Flush(Ok(MOST_PENDING)),
+        Step::Flush(Ok(PENDING_MAX_NOTES)),
         Step::Finish(ONE, 1, 0, Ok(NOT_WANTED)),
         Step::Finish(ONE, 3, 0, Ok(Settled::Dropped(Cause::Missing))),
     ],
@@ -588,7 +588,7 @@ const SHED_TO_THE_ROOM: Script = Script {
     steps: &[
         Step::Shed(&[1, 2], true),
         Step::Shed(&[], true),
-        Step::Flush(Ok(MOST_PENDING)),
+        Step::Flush(Ok(PENDING_MAX_NOTES)),
         Step::Shed(&[3, 4, 5], false),
     ],
     opened: &[],
@@ -597,7 +597,7 @@ const SHED_TO_THE_ROOM: Script = Script {
 
 const PENDING_FULL: Script = Script {
     name: "no more notes pend than may",
-    owed: MOST_PENDING,
+    owed: PENDING_MAX_NOTES,
     limits: DROPPING,
     steps: &[
         Step::Claim(ONE, 0, Ok(1)),
@@ -605,25 +605,25 @@ const PENDING_FULL: Script = Script {
         Step::Claim(ONE, 0, Ok(3)),
         Step::NotWanted(1),
         Step::WantedLater(2),
-        Step::Totals(MOST_PENDING, 0, 0, MOST_PENDING),
-        Step::Owe(MOST_PENDING + 1, Err(FULL)),
+        Step::Totals(PENDING_MAX_NOTES, 0, 0, PENDING_MAX_NOTES),
+        Step::Owe(PENDING_MAX_NOTES + 1, Err(FULL)),
         Step::Settle(ONE, 1, Err(FULL)),
         Step::Defer(ONE, 2, 0, Err(FULL)),
         Step::Lose(ONE, 3, Err(FULL)),
-        Step::Totals(MOST_PENDING, 0, 0, MOST_PENDING),
-        Step::Mark(MOST_PENDING),
+        Step::Totals(PENDING_MAX_NOTES, 0, 0, PENDING_MAX_NOTES),
+        Step::Mark(PENDING_MAX_NOTES),
         Step::Room(0),
         Step::Import(1, Err(FULL)),
         Step::Close(Err(FULL)),
         Step::Imported(0, 0),
-        Step::Flush(Ok(MOST_PENDING)),
-        Step::Owe(MOST_PENDING + 1, Ok(Owed::New)),
+        Step::Flush(Ok(PENDING_MAX_NOTES)),
+        Step::Owe(PENDING_MAX_NOTES + 1, Ok(Owed::New)),
         Step::Import(1, Ok(Owed::New)),
         Step::Close(Ok(1)),
         Step::Settle(ONE, 1, Ok(())),
         Step::Defer(ONE, 2, 0, Ok(())),
         Step::Lose(ONE, 3, Ok(())),
-        Step::Flush(Ok(MOST_PENDING + 6)),
+        Step::Flush(Ok(PENDING_MAX_NOTES + 6)),
     ],
     opened: &[],
     tape: None,

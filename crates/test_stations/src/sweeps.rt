@@ -10,7 +10,7 @@ use std::process::Abort;
 use std::test::Fail;
 
 // More calls than any sweep meets.
-const MOST_CALLS: u64 = 1_000;
+const CALLS_MAX: u64 = 1_000;
 
 // What is owed after each prefix of the notes: those of one debt, of another, of the end of the first, and of a third
 // debt.
@@ -202,7 +202,7 @@ fn meets_fault<A: Abort>(rt: &A, alloc: Global, (first, second): Calls) -> Resul
 
 // How many calls of the first or of the second disk can fail.
 fn calls_of<A: Abort>(rt: &A, alloc: Global, second: bool) -> Result<u64, Fail> {
-    for calls in 0..MOST_CALLS {
+    for calls in 0..CALLS_MAX {
         let before = if second {
             (u64::MAX, calls)
         } else {

@@ -2,8 +2,8 @@
 // whose command was the first unanswered one at the close, the reply that closed it, and the reason in words.
 use crate::exchange::{CHECKED, PLAIN, Row, STREAMING, Step, play_rows};
 use crate::shared::{
-    BACK, LATER, MISSING, Place, article, assert_same, connection, funnel_key, hand, input, names,
-    offer,
+    BACK, LATER, MISSING, RowPlace, article, assert_same, connection, funnel_key, hand, input,
+    names, offer,
 };
 use conn_core::{Conn, CxnId, Mode, Reason};
 use ledger_core::Debt;
@@ -408,7 +408,7 @@ fn long_text(alloc: Global) -> Result<Vec<u8>, Fail> {
 // All of the output was sent; it had this many octets.
 fn drain<A: Abort>(rt: &A, conn: &mut Conn, want: usize) {
     let count = conn.output().len();
-    assert_same(rt, Place::first("a long article"), &count, &want);
+    assert_same(rt, RowPlace::first("a long article"), &count, &want);
     conn.sent(count);
 }
 

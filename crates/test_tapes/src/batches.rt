@@ -3,7 +3,7 @@ use crate::answers::assert_answer;
 use crate::disks::disks_of;
 use crate::rotations::with_octet;
 use crate::samples::{Sample, is_sample, note_of};
-use crate::tape_steps::{Opening, Step, flush, opened, run, run_each};
+use crate::tape_steps::{ReopenedTape, Step, flush, opened, run, run_each};
 use crate::tapes::{FILLS, assert_damaged, fused, image, prefix_of, stopped};
 use disk_model::{Disk, FuseDisk, MemDisk};
 use funnel::{MsgId, Token};
@@ -214,7 +214,7 @@ fn notes_join(rt: HostRuntime) -> Result<(), Fail> {
 #[test]
 fn batches_are_written_and_read(rt: HostRuntime) -> Result<(), Fail> {
     // What is on the first disk (the second is empty), and what is done at each opening of the tape.
-    const SCRIPTS: &[(&[u8], &[Opening])] = &[
+    const SCRIPTS: &[(&[u8], &[ReopenedTape])] = &[
         // What a flush writes.
         (
             &[],

@@ -13,7 +13,7 @@ use std::process::Abort;
 use std::test::Fail;
 
 // More calls than any sweep meets.
-const MOST_CALLS: u64 = 1_000;
+const CALLS_MAX: u64 = 1_000;
 
 fn owe(alloc: Global, tape: &mut Tape<impl Disk>) -> Result<(), Fail> {
     Ok(note(alloc, tape, Sample::Owe(tape.mark().saturating_add(1)))??)
@@ -143,7 +143,7 @@ fn calls_before(second: bool, calls: u64) -> Calls {
 
 // How many calls of the first disk, or of the second, can fail.
 fn calls_of<A: Abort>(rt: &A, alloc: Global, tape: Rotated<'_>, second: bool) -> Result<u64, Fail> {
-    for calls in 0..MOST_CALLS {
+    for calls in 0..CALLS_MAX {
         if !meets_fault(rt, alloc, tape, calls_before(second, calls))? {
             return Ok(calls);
         }
@@ -249,7 +249,7 @@ fn sweep_file<A: Abort>(
     second: bool,
     kept: usize,
 ) -> Result<(), Fail> {
-    for calls in 0..MOST_CALLS {
+    for calls in 0..CALLS_MAX {
         if !file_meets_fault(rt, alloc, tape, plans_failing(second, calls, kept))? {
             return Ok(());
         }

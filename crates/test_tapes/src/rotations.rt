@@ -3,7 +3,7 @@
 use crate::answers::assert_answer;
 use crate::disks::{assert_both, disks_of};
 use crate::samples::Sample;
-use crate::tape_steps::{Octets, Opening, Step, opened, run_each};
+use crate::tape_steps::{Octets, ReopenedTape, Step, opened, run_each};
 use crate::tapes::{
     Calls, Counts, FILLS, OLD_NUMBER, OWED, assert_damaged, assert_prefixes, image, stopped,
 };
@@ -215,7 +215,7 @@ const LAST_SOURCE: [u8; 91] = [
 ];
 
 // What is on the disks, and what is done at each opening of the tape.
-const SCRIPTS: &[(Octets, &[Opening])] = &[
+const SCRIPTS: &[(Octets, &[ReopenedTape])] = &[
     // The first rotation of one debt, and the next.
     (
         (&[], &[]),

@@ -245,13 +245,13 @@ pub(crate) fn run<A: Abort, D: Disk + Drop>(
 pub(crate) type Octets = (&'static [u8], &'static [u8]);
 
 // The steps at one opening of a tape, and what is on the disks then, if that is compared.
-pub(crate) type Opening = (&'static [Step], Option<Octets>);
+pub(crate) type ReopenedTape = (&'static [Step], Option<Octets>);
 
 pub(crate) fn run_each<A: Abort, D: Disk + Drop>(
     rt: &A,
     alloc: Global,
     mut disks: (D, D),
-    openings: &[Opening],
+    openings: &[ReopenedTape],
 ) -> Result<(), Fail> {
     for (at, (steps, left)) in openings.iter().enumerate() {
         disks = run(rt, alloc, disks, steps)?;

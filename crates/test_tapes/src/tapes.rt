@@ -4,7 +4,7 @@ use crate::disks::{assert_both, assert_faults, beside_empty, disk_of, disks_of};
 use crate::planned_file::{Plan, PlannedFile};
 use crate::read_only::ReadOnly;
 use crate::samples::Sample;
-use crate::tape_steps::{Opening, Step, flush, note, opened, play, run, run_each};
+use crate::tape_steps::{ReopenedTape, Step, flush, note, opened, play, run, run_each};
 use disk_model::{Choice, Disk, FileDisk, FlakyDisk, FuseDisk, MemDisk};
 use ledger_core::{LedgerFault, Totals};
 use recovery::{TapeFault, tape_once};
@@ -36,7 +36,7 @@ const NOT_OWED: TapeFault = TapeFault::Note(LedgerFault::NotOwed);
 pub(crate) const OLD_NUMBER: TapeFault = TapeFault::Note(LedgerFault::OldNumber);
 
 // What is on the first disk (the second is empty), and what is done at each opening of the tape.
-const SCRIPTS: &[(&[u8], &[Opening])] = &[
+const SCRIPTS: &[(&[u8], &[ReopenedTape])] = &[
     // Notes come on the first disk, and nothing comes on the other.
     (
         &[],

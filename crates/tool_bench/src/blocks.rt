@@ -4,7 +4,7 @@
 use crate::texts::text_of;
 use crate::time::{number, tell};
 use anyhow::{Result, bail};
-use dot_codec::{LONGEST_TEXT, to_block};
+use dot_codec::{TEXT_MAX_OCTETS, to_block};
 use std::alloc::Global;
 use std::time::{Clock, Instant};
 
@@ -29,13 +29,13 @@ fn small<R: AllocGlobal + Print>(rt: &R) -> Result<()> {
 
 fn measured<R: AllocGlobal + Print + Clock>(rt: &R, work: &str, mib: u64) -> Result<()> {
     let octets = mib.saturating_mul(MIB);
-    let text = text_of(rt.alloc(), octets.min(LONGEST_TEXT as u64) as usize)?;
+    let text = text_of(rt.alloc(), octets.min(TEXT_MAX_OCTETS as u64) as usize)?;
     let start = Instant::now(rt)?;
     let sum = made(
         rt.alloc(),
         work,
         &text,
-        octets.div_ceil(LONGEST_TEXT as u64),
+        octets.div_ceil(TEXT_MAX_OCTETS as u64),
     )?;
     tell(rt, sum, "octets", start.elapsed(rt)?)
 }

@@ -30,7 +30,7 @@ enum Work {
 
 // The connection to the peer, and the peer's answers to a batch, made before the clock runs.
 #[derive(Drop)]
-struct Peer {
+struct BenchPeer {
     conn: Conn,
     token: Token,
     ids: Vec<MsgId>,
@@ -97,7 +97,7 @@ fn worked_off<R: AllocGlobal + Clock>(rt: &R, work: Work, count: u64) -> Result<
 // proof: the connection and the station each in a frame of its own, so that no way out of either drops both.
 fn worked_off_with<R: AllocGlobal + Clock>(
     rt: &R,
-    peer: &mut Peer,
+    peer: &mut BenchPeer,
     work: Work,
     count: u64,
 ) -> Result<Told> {
@@ -162,7 +162,7 @@ fn shed(station: &mut Station<MemDisk>) -> Result<(u64, bool)> {
 fn work_off<R: AllocGlobal + Clock>(
     rt: &R,
     station: &mut Station<MemDisk>,
-    peer: &mut Peer,
+    peer: &mut BenchPeer,
     count: u64,
     told: &mut Told,
 ) -> Result<()> {
@@ -218,13 +218,13 @@ fn end_all<R: Clock>(
     told.stop(rt, start)
 }
 
-fn peer_of(alloc: Global, work: Work) -> Result<Peer> {
+fn peer_of(alloc: Global, work: Work) -> Result<BenchPeer> {
     let code = match work {
         Work::Settle => b"438",
         Work::Defer => b"431",
     };
     let ids = ids_of(alloc)?;
-    Ok(Peer {
+    Ok(BenchPeer {
         conn: streaming(alloc)?,
         token: token_of(alloc)?,
         answers: answers_of(alloc, &ids, code)?,
@@ -233,7 +233,7 @@ fn peer_of(alloc: Global, work: Work) -> Result<Peer> {
 }
 
 // Offers a batch of debts, and returns what the peer makes of them.
-fn outcomes_of(alloc: Global, peer: &mut Peer, debts: Vec<Debt>) -> Result<Vec<Outcome>> {
+fn outcomes_of(alloc: Global, peer: &mut BenchPeer, debts: Vec<Debt>) -> Result<Vec<Outcome>> {
     for debt in debts {
         offer(&mut peer.conn, debt)?;
     }
@@ -247,14 +247,14 @@ fn outcomes_of(alloc: Global, peer: &mut Peer, debts: Vec<Debt>) -> Result<Vec<O
 }
 
 // A station over a disk in memory that owes this many debts, rounded down to whole batches, with no note pending.
-fn owing(alloc: Global, peer: &Peer, count: u64) -> Result<Station<MemDisk>> {
+fn owing(alloc: Global, peer: &BenchPeer, count: u64) -> Result<Station<MemDisk>> {
     let mut station = opened(alloc)?;
     owe_all(&mut station, peer, count)?;
     Ok(station)
 }
 
 // Owes this many debts, rounded down to whole batches, and flushes.
-fn owe_all(station: &mut Station<MemDisk>, peer: &Peer, count: u64) -> Result<()> {
+fn owe_all(station: &mut Station<MemDisk>, peer: &BenchPeer, count: u64) -> Result<()> {
     for round in 0..count / IN_FLIGHT {
         owe_batch(station, peer, round)?;
         if round % BATCHES == 0 {
@@ -282,7 +282,7 @@ fn limited(alloc: Global, octets: u64) -> Result<Station<MemDisk>> {
     }
 }
 
-fn owe_batch(station: &mut Station<MemDisk>, peer: &Peer, round: u64) -> Result<()> {
+fn owe_batch(station: &mut Station<MemDisk>, peer: &BenchPeer, round: u64) -> Result<()> {
     for (place, id) in peer.ids.iter().enumerate() {
         let number = round.saturating_mul(IN_FLIGHT).saturating_add(place as u64);
         station.owe(number.saturating_add(1), &peer.token, id)?;

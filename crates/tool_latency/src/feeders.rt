@@ -23,7 +23,7 @@ const WATCHED: usize = 1;
 
 /// Claims the debts of the first peer, and finishes each.
 #[derive(Drop)]
-pub struct Feeder<'a, N: Naming> {
+pub struct TimedFeeder<'a, N: Naming> {
     pub alloc: Global,
     pub share: FeederShare<N>,
     pub flushes: &'a Flushes,
@@ -32,13 +32,13 @@ pub struct Feeder<'a, N: Naming> {
     pub finishes: Times,
 }
 
-impl<'a, N: Naming> Feeder<'a, N> {
+impl<'a, N: Naming> TimedFeeder<'a, N> {
     /// A feeder whose connection has agreed to streaming.
     pub fn new(
         alloc: Global,
         share: FeederShare<N>,
         flushes: &'a Flushes,
-    ) -> anyhow::Result<Feeder<'a, N>> {
+    ) -> anyhow::Result<TimedFeeder<'a, N>> {
         let options = Options {
             streaming: true,
             max_queue: 20,
@@ -49,7 +49,7 @@ impl<'a, N: Naming> Feeder<'a, N> {
         };
         let mut conn = Conn::new(alloc, CONNECTION, options)?;
         conn.input(b"200 news.example.org\r\n203 streaming\r\n")?;
-        Ok(Feeder {
+        Ok(TimedFeeder {
             alloc,
             share,
             flushes,
@@ -183,26 +183,26 @@ impl<'a, N: Naming> Watcher<'a, N> {
 
 /// The job of a worker.
 #[derive(Drop)]
-pub enum Job<'a, N: Naming> {
-    Feed(Feeder<'a, N>),
+pub enum TimedJob<'a, N: Naming> {
+    Feed(TimedFeeder<'a, N>),
     Watch(Watcher<'a, N>),
 }
 
 /// A worker that does its job until the last phase, and what stopped it.
 #[derive(Drop)]
-pub struct Worker<'a, N: Naming> {
-    pub job: Job<'a, N>,
+pub struct TimedWorker<'a, N: Naming> {
+    pub job: TimedJob<'a, N>,
     pub failure: Option<&'static str>,
 }
 
-impl<'a, N: Naming> Worker<'a, N> {
+impl<'a, N: Naming> TimedWorker<'a, N> {
     /// A worker that nothing has stopped.
-    pub fn new(job: Job<'a, N>) -> Worker<'a, N> {
-        Worker { job, failure: None }
+    pub fn new(job: TimedJob<'a, N>) -> TimedWorker<'a, N> {
+        TimedWorker { job, failure: None }
     }
 }
 
-impl<'a, D: Disk, N: Naming> Work<D, N> for Worker<'a, N> {
+impl<'a, D: Disk, N: Naming> Work<D, N> for TimedWorker<'a, N> {
     fn run<R: AllocGlobal + Wait + Clock + Log, P: Pace>(
         &mut self,
         rt: &R,
@@ -215,8 +215,8 @@ impl<'a, D: Disk, N: Naming> Work<D, N> for Worker<'a, N> {
                 break;
             }
             let worked = match &mut self.job {
-                Job::Feed(feeder) => feeder.feed(rt, post),
-                Job::Watch(watcher) => watcher.watch(rt, post),
+                TimedJob::Feed(feeder) => feeder.feed(rt, post),
+                TimedJob::Watch(watcher) => watcher.watch(rt, post),
             };
             match worked {
                 Ok(true) => {}

@@ -18,7 +18,7 @@ const BATCH_LINES: u64 = 64;
 
 /// Takes lines of both peers until this many flushes have ended.
 #[derive(Drop)]
-pub struct Intake<'a, N: Naming> {
+pub struct TimedIntake<'a, N: Naming> {
     pub alloc: Global,
     pub share: IntakeShare<N>,
     pub flushes: &'a Flushes,
@@ -28,7 +28,7 @@ pub struct Intake<'a, N: Naming> {
     pub failure: Option<&'static str>,
 }
 
-impl<'a, N: Naming> Intake<'a, N> {
+impl<'a, N: Naming> TimedIntake<'a, N> {
     fn take_lines<D: Disk, R: Wait + Clock>(
         &mut self,
         rt: &R,
@@ -72,7 +72,7 @@ impl<'a, N: Naming> Intake<'a, N> {
     }
 }
 
-impl<'a, D: Disk, N: Naming> Work<D, N> for Intake<'a, N> {
+impl<'a, D: Disk, N: Naming> Work<D, N> for TimedIntake<'a, N> {
     fn run<R: AllocGlobal + Wait + Clock + Log, P: Pace>(
         &mut self,
         rt: &R,

@@ -20,8 +20,8 @@ mod lines;
 mod times;
 
 use crate::beside::Flushes;
-use crate::feeders::{Feeder, Job, Watcher, Worker};
-use crate::lines::{Intake, line_of};
+use crate::feeders::{TimedFeeder, TimedJob, TimedWorker, Watcher};
+use crate::lines::{TimedIntake, line_of};
 use crate::times::Times;
 use anyhow::{Context, Result, bail};
 use disk_model::{Disk, MemDisk, TapeDirectory};
@@ -181,9 +181,9 @@ fn work<
     let (post, mut share, first, second, third) = Post::<D, N>::new(alloc, peers, intake, blanks)?;
     owe(rt, &post, &mut share)?;
     let flushes = Flushes::new();
-    let feeder = Worker::new(Job::Feed(Feeder::new(alloc, first, &flushes)?));
-    let watcher = Worker::new(Job::Watch(Watcher::new(alloc, second, &flushes)));
-    let mut intake = Intake {
+    let feeder = TimedWorker::new(TimedJob::Feed(TimedFeeder::new(alloc, first, &flushes)?));
+    let watcher = TimedWorker::new(TimedJob::Watch(Watcher::new(alloc, second, &flushes)));
+    let mut intake = TimedIntake {
         alloc,
         share,
         flushes: &flushes,
@@ -214,21 +214,21 @@ fn work<
 
 // What the workers have measured, unless one failed.
 fn measured_by<N: Naming>(
-    first: Worker<'_, N>,
-    second: Worker<'_, N>,
-    intake: Intake<'_, N>,
+    first: TimedWorker<'_, N>,
+    second: TimedWorker<'_, N>,
+    intake: TimedIntake<'_, N>,
 ) -> Result<Measured> {
-    let Intake { lines, failure, .. } = intake;
+    let TimedIntake { lines, failure, .. } = intake;
     if let Some(failure) = failure.or(first.failure).or(second.failure) {
         bail!("{failure}");
     }
-    let Job::Feed(feeder) = first.job else {
+    let TimedJob::Feed(feeder) = first.job else {
         bail!("no feeder");
     };
-    let Job::Watch(watcher) = second.job else {
+    let TimedJob::Watch(watcher) = second.job else {
         bail!("no watcher");
     };
-    let Feeder {
+    let TimedFeeder {
         claims,
         finishes,
         ..

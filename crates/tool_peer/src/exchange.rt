@@ -6,7 +6,7 @@ use memchr::{memchr, memmem};
 use std::alloc::Global;
 
 // The longest line that it waits for, in octets.
-const LONGEST_LINE: usize = 65_536;
+const LINE_MAX_OCTETS: usize = 65_536;
 
 #[derive(Clone, Copy)]
 enum Sender {
@@ -83,7 +83,7 @@ impl Exchange {
     fn read_line(&mut self, history: &mut History) -> Result<bool> {
         let rest = unread(&self.input, self.read);
         let Some(end) = memchr(b'\n', rest) else {
-            self.ended = rest.len() > LONGEST_LINE;
+            self.ended = rest.len() > LINE_MAX_OCTETS;
             return Ok(false);
         };
         let line = Vec::from_slice(self.alloc, rest.get(..end).unwrap_or(b""))?;

@@ -12,7 +12,7 @@ use super::Machine;
 use crate::codes::{Meaning, Verb, counted, ends_all, is_welcome, meaning_of, stray};
 use crate::deferral::Deferral;
 use crate::kept::{AwaitedAsk, WantedArticle};
-use crate::lines::{MODE_STREAM, QUIT};
+use crate::lines::{MODE_STREAM_OCTETS, QUIT_OCTETS};
 use crate::lookup::take_answered;
 use crate::mode::Mode;
 use crate::outcome::Outcome;
@@ -69,7 +69,7 @@ impl Machine {
             return Ok(());
         }
         if self.options.streaming {
-            self.output.reserve(MODE_STREAM + QUIT)?;
+            self.output.reserve(MODE_STREAM_OCTETS + QUIT_OCTETS)?;
             self.output.extend_reserved(b"MODE STREAM\r\n");
             self.phase = Phase::Asking;
         } else {
@@ -232,8 +232,8 @@ fn room_for_block(output: &mut BytesMut, blocks: &VecDeque<Bytes>) -> Result<(),
     ensures room { OnOk result (length (first_block blocks.now.items) + 6 ≤ output.new.spare) }
 {
     match blocks.front() {
-        Some(block) => output.reserve(block.len() + QUIT),
-        None => output.reserve(QUIT),
+        Some(block) => output.reserve(block.len() + QUIT_OCTETS),
+        None => output.reserve(QUIT_OCTETS),
     }
 }
 

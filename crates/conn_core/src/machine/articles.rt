@@ -9,7 +9,7 @@ ghost use Rattle.conn_core.specs.Receipt.{IsHandedAs, IsSendableArticle};
 use super::Machine;
 use crate::codes::Verb;
 use crate::kept::AwaitedAsk;
-use crate::lines::{LONGEST_VERB, QUIT, id_len, put_line};
+use crate::lines::{QUIT_OCTETS, VERB_MAX_OCTETS, id_len, put_line};
 use crate::lookup::{debt_wanting, take_wanted};
 use crate::outcome::Outcome;
 use crate::phase::Phase;
@@ -148,7 +148,7 @@ fn put_takethis(output: &mut BytesMut, id: &MsgId, block: &Bytes) -> Result<(), 
     ensures unchanged { OnErr result (output.new.items ≡ output.old.items) }
     ensures spare { OnErr result (output.old.spare ≤ output.new.spare) }
 {
-    output.reserve(id_len(id) + block.len() + (LONGEST_VERB + QUIT))?;
+    output.reserve(id_len(id) + block.len() + (VERB_MAX_OCTETS + QUIT_OCTETS))?;
     put_line(output, b"TAKETHIS ", id.bytes());
     output.extend_reserved(block.as_slice());
     Ok(())
@@ -169,7 +169,7 @@ fn put_ihave(
         ((output.new.items ≡ output.old.items) × (blocks.new.items ≡ blocks.old.items)) }
     ensures spare { OnErr result (output.old.spare ≤ output.new.spare) }
 {
-    output.reserve(id_len(id) + (LONGEST_VERB + QUIT))?;
+    output.reserve(id_len(id) + (VERB_MAX_OCTETS + QUIT_OCTETS))?;
     blocks.reserve(1)?;
     put_line(output, b"IHAVE ", id.bytes());
     blocks.push_back_reserved(block);

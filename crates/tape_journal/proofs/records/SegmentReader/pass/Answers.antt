@@ -13,9 +13,9 @@ returns-then-end-self-clause-damaged g c payloads come begins at told =
     nothing_behind all _ at (read_held all payloads self.at c.args.size at come.read begins end)
     (omega (arith, place, self.whole come.honest)) (omega (arith, end))
 
-pub returns-then-size-gt-LONGEST_GIVEN-clause-step :
-    goal.returns-then-size-gt-LONGEST_GIVEN-clause-step
-returns-then-size-gt-LONGEST_GIVEN-clause-step g c payloads come begins =
+pub returns-then-size-gt-GIVEN_MAX_OCTETS-clause-step :
+    goal.returns-then-size-gt-GIVEN_MAX_OCTETS-clause-step
+returns-then-size-gt-GIVEN_MAX_OCTETS-clause-step g c payloads come begins =
     let self = c.args.self.now in
     let all = content (g.D.Disk.log self.disk) in
     let len = length-held all self.at c.args.size begins in (
