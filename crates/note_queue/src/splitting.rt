@@ -26,12 +26,11 @@ pub fn split<D: Disk>(
     place: usize,
 ) -> Result<(Sender, Side<D>), (Station<D>, AllocError)>
     requires pass { IsPassOf queue.now pass × (view pass ≡ begun) }
-    requires works { IsBroken station → ⊥ }
-    requires none_pends { pending_of station ≡ 0 }
+    requires flushed { (IsBroken station → ⊥) × (pending_of station ≡ 0) }
     requires kept { ∥ IsKept (tape_of station) ∥₁ }
     ensures queue { IfOk result (λ ends. IsAt queue.now ends.0.pass × IsAt queue.now ends.1.pass) }
-    ensures sends { IfOk result (λ ends. view ends.0.pass ≡ may_push (ledger_of station) []) }
-    ensures gets { IfOk result (λ ends. view ends.1.pass ≡ may_pop (ledger_of station) []) }
+    ensures passes { IfOk result (λ ends. (view ends.0.pass ≡ may_push (ledger_of station) [])
+        × (view ends.1.pass ≡ may_pop (ledger_of station) [])) }
     ensures front { IfOk result (λ ends. IsFrontOf place station ends.0.front) }
     ensures tape { IfOk result (λ ends. IsPlaced place (tape_of station) ends.1.tape
         × (ends.1.kept ≡ None)) }
