@@ -23,13 +23,20 @@ enum Step {
     ImportMark(u64),
 }
 
+// A script's first note is taken by `apply`, and lies at offset 0, as one that `apply_at` puts there.
 fn apply(
     alloc: Global,
     ledger: &mut Ledger,
     at: u64,
     sample: Sample,
 ) -> Result<Result<(), LedgerFault>, Fail> {
-    match ledger.apply_at(&note_of(alloc, sample)?, at, 0, 0) {
+    let note = note_of(alloc, sample)?;
+    let answer = if at == 0 {
+        ledger.apply(&note)
+    } else {
+        ledger.apply_at(&note, at, 0, 0)
+    };
+    match answer {
         Err(LedgerFault::NoMemory) => Err(Fail::from(LedgerFault::NoMemory)),
         answer => Ok(answer),
     }
