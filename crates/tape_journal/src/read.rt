@@ -116,6 +116,34 @@ pub(crate) fn head_at<D: Disk>(
     Ok(head_of(first, left))
 }
 
+// The same, if so many octets from there on are wanted next: a window with room for them takes them up at once. So a
+// part of a record that lies past the window does not move the window past the record's head.
+fn head_before<D: Disk>(
+    window: &mut Window,
+    disk: &mut D,
+    at: u64,
+    len: u64,
+    wanted: u64,
+) -> Result<Head, OpenFault>
+    requires inside { at < len }
+    requires shows { D.honest disk.old → Shows window.old (content (D.log disk.old)) }
+    ensures shows { D.honest disk.old → Shows window.new (content (D.log disk.old)) }
+    ensures honest { D.honest disk.old ↔ D.honest disk.new }
+    ensures log { D.honest disk.old → D.log disk.new ≡ D.log disk.old }
+    ensures is { D.honest disk.old → len ≡ length (content (D.log disk.old))
+        → IfOk result (λ head. IsHead head (drop at (content (D.log disk.old)))) }
+    ensures fits { IfOk result (λ head. FitsHead head (len - at)) }
+    ensures kinds { IfErr result (λ e. e ≡ OpenFault.Disk) }
+    ensures room { room_of window.new ≡ room_of window.old }
+    ensures later { D.faults_of disk.old ≤ D.faults_of disk.new }
+    ensures cause { D.honest disk.old → len ≡ length (content (D.log disk.old))
+        → IsErrOf result OpenFault.Disk → HasRisen (D.faults_of disk.old) (D.faults_of disk.new) }
+    ensures quiet { OnOk result (D.faults_of disk.new ≡ D.faults_of disk.old) }
+{
+    window.reach(disk, at, wanted.min(len - at))?;
+    head_at(window, disk, at, len)
+}
+
 // The record at an offset before the segment's end, or None where the segment ends there.
 pub(crate) fn record_at<D: Disk>(
     alloc: Global,
@@ -178,7 +206,8 @@ pub(crate) fn part_of<D: Disk>(
         → IsErrOf result OpenFault.Disk → HasRisen (D.faults_of disk.old) (D.faults_of disk.new) }
     ensures quiet { OnOk result (D.faults_of disk.new ≡ D.faults_of disk.old) }
 {
-    let size = match head_at(window, disk, at, len)? {
+    let wanted = RECORD_HEAD_OCTETS + u64::from(from) + u64::from(most);
+    let size = match head_before(window, disk, at, len, wanted)? {
         Head::Record(size) => size,
         Head::End => return Ok(None),
         Head::CutShort => return Err(OpenFault::Damaged { at }),

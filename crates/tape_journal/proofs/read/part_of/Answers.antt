@@ -56,10 +56,10 @@ returns-clause-reads g c honest len =
     let place : drop (c.args.at + 5 + start) all ≡ drop start (drop 5 rest) =
     sym (drop-drop start (c.args.at + 5) all) ∙ ap (drop start) (sym (drop-drop 5 c.args.at all)) in
     let is : part ≡ take count (drop start (drop 5 rest)) =
-    c.in_ok-part.ensures.octets (c.head_at.ensures.honest.0 honest)
-    ∙ (ap (λ (l : List Event). take count (drop (c.args.at + 5 + c.from.result) (content l)))
-    (c.head_at.ensures.log honest)
-    ∙ (ap (λ (n : ℕ). take count (drop (c.args.at + 5 + n) all)) c.from.ensures ∙ ap (take count) place)) in
+    c.in_ok-part.ensures.octets (c.head_before.ensures.honest.0 honest)
+    ∙ (ap (λ (l : List Event). take count (drop (c.args.at + 5 + c.from-3.result) (content l)))
+    (c.head_before.ensures.log honest)
+    ∙ (ap (λ (n : ℕ). take count (drop (c.args.at + 5 + n) all)) c.from-3.ensures ∙ ap (take count) place)) in
     record {
       payload = take size (drop 5 rest);
       is = record_begins size rest (take size (drop 5 rest)) begins refl
