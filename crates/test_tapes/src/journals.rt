@@ -318,6 +318,48 @@ fn steps_are_taken_at_a_journal(rt: HostRuntime) -> Result<(), Fail> {
     Ok(())
 }
 
+// How many of three parts are read of a journal that reads ahead, if its disk passes this many calls. The segment has
+// three records of 65,541 octets each, so that the first window, of 131,072, ends within the second. The second part
+// lies past that end, and the third is before it in the same record.
+fn parts_read(alloc: Global, segment: &[u8], calls: u64) -> Result<usize, Fail> {
+    const PARTS: [(u64, u32, u32); 3] = [(0, 0, 1), (65_541, 65_530, 6), (65_541, 0, 6)];
+    let disk = FuseDisk::new(disk_of(alloc, segment)?, calls);
+    let Ok((_, mut journal)) = opened(alloc, disk) else {
+        return Ok(0);
+    };
+    journal.read_ahead()?;
+    for (count, (offset, from, most)) in PARTS.iter().enumerate() {
+        match journal.part_at(*offset, *from, *most) {
+            Ok(_) => (),
+            Err(ReadFault::NoMemory) => return Err(Fail::from(ReadFault::NoMemory)),
+            Err(_) => return Ok(count),
+        }
+    }
+    Ok(PARTS.len())
+}
+
+// Once there are calls enough for the first part, one more reads both others.
+#[test]
+fn a_window_moves_to_a_records_head(rt: HostRuntime) -> Result<(), Fail> {
+    let alloc = rt.alloc();
+    let payload = vec![in alloc; 7u8; 65_536]?;
+    let mut segment = Vec::new(alloc);
+    for _ in 0..3 {
+        segment.extend_from_slice(&[0xa5, 0, 1, 0, 0])?;
+        segment.extend_from_slice(&payload)?;
+    }
+    segment.push(0)?;
+    for calls in 0..100 {
+        let count = parts_read(alloc, &segment, calls)?;
+        if count > 0 {
+            assert_answer(&rt, 0, &count, &1);
+            assert_answer(&rt, 1, &parts_read(alloc, &segment, calls + 1)?, &3);
+            return Ok(());
+        }
+    }
+    Err(Fail::from("a part"))
+}
+
 #[test]
 fn a_refused_disk_is_handed_back(rt: HostRuntime) -> Result<(), Fail> {
     let alloc = rt.alloc();
