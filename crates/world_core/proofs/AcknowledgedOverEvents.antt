@@ -57,7 +57,7 @@ tape_same was now same = record {
       ∙ sym (append-nil (take was.history.kept was.history.notes));
 }
 
-tape_noted : (was now : TapePast) (notes : List Note) → now.history ≡ noted_all was.history notes
+pub tape_noted : (was now : TapePast) (notes : List Note) → now.history ≡ noted_all was.history notes
     → StaysAcknowledged was now
 tape_noted was now notes is = record {
   base = ap (λ (h : History). h.base) is;

@@ -6,7 +6,8 @@ use Rattle.world_core.specs.Events.{AllDo, Event}
 use Rattle.world_core.specs.Halts.{AtRest, ByChoice, Manner, left, left_peer}
 use Rattle.world_core.specs.Keeping.{PeerStays, PeersStay}
 use Rattle.world_core.specs.Laws.{AllStayAcknowledged, OverRuns}
-use Rattle.world_core.proofs.AcknowledgedOverEvents.{event_stays, one_changed, stay_same, stay_then, tape_same}
+use Rattle.world_core.proofs.AcknowledgedOverEvents.{event_stays, one_changed, stay_same, stay_then, tape_noted}
+use Rattle.world_core.proofs.AcknowledgedOverEvents.{tape_same}
 use Rattle.world_core.proofs.WalkOverSteps.{comes_all, events_all}
 use Rattle.world_core.proofs.WalkOverTapes.{Keeper}
 use Rattle.world_core.proofs.RelatedLists.{zip_made}
@@ -48,5 +49,7 @@ events_stay begun later events does = events_all lasting (λ event. tt) left_all
 
 pub all_stay : OverRuns AllStayAcknowledged
 all_stay = λ begun later steps lines comes. record {
-  peers = comes_all lasting (λ event. tt) left_all begun steps lines later comes;
+  peers = comes_all lasting (λ event. tt) left_all
+      (λ past rank id was now here keeps. one_changed past (with_peer past rank now) rank was now here refl
+      (keeps.conf, tape_noted was.tape now.tape keeps.more keeps.notes)) begun steps lines later comes;
 }

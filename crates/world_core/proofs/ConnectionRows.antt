@@ -17,8 +17,9 @@ use Rattle.peer_queue.specs.declared.settled.Settled.TheVariants.{Answered, Drop
 use Rattle.recovery.specs.Notes.{begun as begun_history}
 use Rattle.world_core.specs.Past.{ConnPast, Life, Past, TapePast}
 use Rattle.world_core.specs.Events.{Settles}
-use Rattle.world_core.specs.Exchange.{TakesConnect, exchange_said, followed_up, fresh_conn, settle_events, settled_out}
-use Rattle.world_core.specs.Exchange.{unsettled, waiting, with_transcript}
+use Rattle.world_core.specs.Exchange.{TakesConnect, exchange_said, followed_up, fresh_conn, settled_out, unsettled}
+use Rattle.world_core.specs.Exchange.{waiting, with_transcript}
+use Rattle.world_core.specs.ExchangeLaws.{settle_events}
 use Rattle.world_core.specs.Halts.{armed_with}
 use Rattle.world_core.specs.Runs.{RefusesStep, Runs}
 use Rattle.world_core.specs.Runs.Runs.{Next, Start}

@@ -2,8 +2,9 @@
 use Rattle.std.proofs.Common.{◌≡◌, ℕ, ◌+◌, List, [], ◌++◌, length, refl, ◌∙◌}
 use Rattle.disk_model.specs.declared.Disk.{Ghosts}
 use Rattle.world_core.specs.Past.{Life}
-use Rattle.world_core.specs.Exchange.{Next, Start}
-use Rattle.world_core.specs.Joined.{AreRunning, MadeOn, RefusedOn, TicksNot, TicksOne, TicksOneNot, TicksSome}
+use Rattle.world_core.specs.Exchange.{TicksNot, TicksOne, TicksOneNot, TicksSome}
+use Rattle.world_core.specs.Exchange.TicksEach.{Next, Start}
+use Rattle.world_core.specs.Joined.{AreRunning, MadeOn, RefusedOn}
 use Rattle.world_core.specs.Stands.{ConnectionStands}
 use Rattle.world_core.specs.declared.connection.Connection.{Connection}
 use Rattle.world_core.specs.declared.fault.Fault.{Fault}
@@ -42,8 +43,7 @@ module _ {D : Type 0} {g : Ghosts D} where
     ticks_more outputs new new_cs one = record {
       later = one.later;
       said = prefix.said ++ one.said;
-      makes = Next count prefix.said one.said prefix.later one.later one.makes.id one.makes.conn one.makes.peer
-          prefix.makes one.makes.next one.makes.here one.makes.follows;
+      makes = Next count prefix.said one.said prefix.later one.later prefix.makes one.makes;
       outputs_are = tells_both before mid_outputs outputs prefix.said one.said prefix.outputs_are one.outputs_are;
       stand = one.stand;
       armed = one.armed ∙ prefix.armed;

@@ -1,8 +1,7 @@
 -- What a claim, an offer and a return make of a connection and its peer.
 use Rattle.std.proofs.Common.{◌≡◌, ◌≢◌, ◌↔◌, ◌⊎◌, ℕ, Bool, true, false, Option, None, Some, List, [], ◌∷◌, ◌++◌, map}
 use Rattle.std.proofs.Common.{refl, sym, ap, ◌∙◌, subst, inl, inr}
-use Rattle.std.specs.Prelude.{Contains, IfNone, IfSome, IsSome, is_none, is_some, not}
-use Rattle.std.specs.Prelude.{option_map}
+use Rattle.std.specs.Prelude.{Contains, IfNone, IfSome, IsSome, is_none, is_some, not, option_map}
 use Rattle.std.proofs.lemmas.Bool.{cases_eq}
 use Rattle.disk_model.specs.declared.Disk.{Ghosts}
 use Rattle.feed_conf.specs.declared.conf.PeerConf.{PeerConf}
@@ -16,18 +15,17 @@ use Rattle.conn_core.specs.declared.reason.Reason.{Reason}
 use Rattle.conn_core.specs.declared.ready.Ready.TheVariants.{Busy as NoRoom, Shut, Yes}
 use Rattle.peer_queue.specs.Faults.{IsClaimFault}
 use Rattle.peer_queue.specs.DebtPlace.{AreRising, DebtPlace, Held, IsHeldBy, IsUnheld, Places, Ready, is_held}
-use Rattle.peer_queue.specs.DebtPlace.{least_candidate}
-use Rattle.peer_queue.specs.DebtPlace.{moved, place_at}
+use Rattle.peer_queue.specs.DebtPlace.{least_candidate, moved, place_at}
 use Rattle.peer_queue.specs.ClaimLaws.{candidate_unheld}
 use Rattle.peer_queue.specs.Words.{IsRead, IsSameTape, ledger_of, places_of, tape_of}
 use Rattle.peer_queue.specs.declared.fault.StationFault.{StationFault}
 use Rattle.peer_queue.specs.declared.fault.StationFault.TheVariants.{NotHeld, Broken, Tape as TapeRefused, NoMemory}
 use Rattle.world_core.specs.Past.{ConnPast, PeerPast, TapePast, options_of, with_places, with_tape}
 use Rattle.world_core.specs.Events.{RefusesClaim, claimed_peer}
-use Rattle.world_core.specs.Exchange.{with_transcript}
+use Rattle.world_core.specs.Exchange.{ClaimsAt, FailsToHand, GivesBackAt, HandsOver, Has_no_room, Is_shut, None_there}
+use Rattle.world_core.specs.Exchange.{TakesHand, Taken_over, with_transcript}
 use Rattle.world_core.specs.Fault.{fault_of_station}
-use Rattle.world_core.specs.Pairs.{ClaimsAt, Followed, FollowedNot, GivesBackAt, HandedNot, HandedOn, HandedOnNot}
-use Rattle.world_core.specs.Pairs.{HandedOver, HandsOverAt, None_at, No_room_at, PairStands, Shut_at, Taken_at}
+use Rattle.world_core.specs.Pairs.{Followed, FollowedNot, HandedNot, HandedOver, PairMade, PairRefused, PairStands}
 use Rattle.world_core.specs.Sound.{numbers_at}
 use Rattle.world_core.specs.Stands.{HoldsTranscript, PeerStands, TapeStands, WaitsWith}
 use Rattle.world_core.specs.Output.{Handed as SaidHanded, Said, said_of}
@@ -172,7 +170,7 @@ module _ {D : Type 0} {g : Ghosts D} where
     none_claimed works none places = record {
       transcript = conn.transcript;
       later = with_tape past tape_read;
-      hands = None_at tape_read (tape_works past.tape (tape_of old.station) pair.stands.tape works)
+      hands = None_there tape_read (tape_works past.tape (tape_of old.station) pair.stands.tape works)
           (subst (λ (p : Places). least_candidate now p ≡ None) pair.stands.places none)
           (read_tape past.tape (tape_of old.station) (tape_of new.station) pair.stands.tape reads.tape).0;
       stand = pair_read places;
@@ -235,9 +233,9 @@ module _ {D : Type 0} {g : Ghosts D} where
             transcript = after o conn.transcript (Offered debt);
             later = claimed;
             hands = subst (λ (n : ℕ).
-                HandsOverAt id now conn past (Debt n) (after o conn.transcript (Offered debt)) claimed)
+                HandsOver id now conn past (Debt n) (after o conn.transcript (Offered debt)) claimed)
                 (sym own_number)
-                (Taken_at debt claimed ready claims);
+                (Taken_over debt claimed ready claims);
             stand = record {
               id_is = ap (λ i. i.0) same_id ∙ pair.id_is;
               rank = rank ∙ pair.rank;
@@ -320,7 +318,7 @@ module _ {D : Type 0} {g : Ghosts D} where
               transcript = conn.transcript;
               later = returned;
               hands =
-                  No_room_at debt returned ready gives_back;
+                  Has_no_room debt returned ready gives_back;
               stand = pair_back;
             }
 
@@ -331,7 +329,7 @@ module _ {D : Type 0} {g : Ghosts D} where
               transcript = conn.transcript;
               later = returned;
               hands =
-                  Shut_at debt returned ready gives_back;
+                  Is_shut debt returned ready gives_back;
               stand = pair_back;
             }
 
@@ -356,28 +354,28 @@ if_some o x P is tells = some_at x P (subst (λ p. IfSome p P) is tells)
 
 module _ (id now : ℕ) (conn : ConnPast) (past : PeerPast) where
   hands_conf : (handed : Handover) (transcript : List Happening) (later : PeerPast)
-      → HandsOverAt id now conn past handed transcript later
+      → HandsOver id now conn past handed transcript later
       → later.conf ≡ past.conf
-  hands_conf _ _ _ (None_at tape works none reads) = refl
-  hands_conf _ _ _ (Taken_at debt later ready claims) = ap (λ (p : PeerPast). p.conf) claims.changed
-  hands_conf _ _ _ (No_room_at debt later ready gives) =
+  hands_conf _ _ _ (None_there tape works none reads) = refl
+  hands_conf _ _ _ (Taken_over debt later ready claims) = ap (λ (p : PeerPast). p.conf) claims.changed
+  hands_conf _ _ _ (Has_no_room debt later ready gives) =
       ap (λ (p : PeerPast). p.conf) gives.returns.changed ∙ ap (λ (p : PeerPast). p.conf) gives.claims.changed
-  hands_conf _ _ _ (Shut_at debt later ready gives) =
+  hands_conf _ _ _ (Is_shut debt later ready gives) =
       ap (λ (p : PeerPast). p.conf) gives.returns.changed ∙ ap (λ (p : PeerPast). p.conf) gives.claims.changed
 
 module _ {D : Type 0} {g : Ghosts D} (id now : ℕ) (conn : ConnPast) (past : PeerPast) where
   pub hand_memory : (fault : Fault) (c : Connection) (peer : Peer D g) → fault ≡ NoStepMemory
       → PairStands id conn past c peer
-      → HandedOnNot id now conn past fault c peer
+      → PairRefused (FailsToHand id now conn past fault) id c peer
   hand_memory fault c peer is pair =
-      record { later_conn = conn; later = past; why = inl (is, refl, refl); stand = pair }
+      record { later_conn = conn; later = past; refuses = inl (is, refl, refl); stand = pair }
 
   pub hand_not : (fault outputs : Fault) (c : Connection) (peer : Peer D g) → outputs ≡ fault
       → HandedNot id now conn past fault c peer
-      → HandedOnNot id now conn past outputs c peer
+      → PairRefused (FailsToHand id now conn past outputs) id c peer
   hand_not fault outputs c peer same is =
-      subst (λ (f : Fault). HandedOnNot id now conn past f c peer) (sym same)
-      (record { later_conn = conn; later = is.later; why = inr (inl (is.why, refl)); stand = is.stand })
+      subst (λ (f : Fault). PairRefused (FailsToHand id now conn past f) id c peer) (sym same)
+      (record { later_conn = conn; later = is.later; refuses = inr (inl (is.why, refl)); stand = is.stand })
 
   module _ (handed : Handover) (mid_c : Connection) (mid_peer : Peer D g)
       (over : HandedOver id now conn past handed mid_c mid_peer) where
@@ -394,16 +392,20 @@ module _ {D : Type 0} {g : Ghosts D} (id now : ℕ) (conn : ConnPast) (past : Pe
         → what ≡ handed
         → mid ≡ before ++ OutputHanded cxn what ∷ [] → cxn ≡ mid_c.conn.id.0
         → Followed id now conn.transcript (with_transcript conn over.transcript) over.later mid c peer outputs
-        → HandedOn id now conn past before c peer outputs
+        → PairMade (TakesHand id now conn past) id before c peer outputs
     hand_on before mid outputs cxn what c peer same is own followed = record {
-      handed = handed;
-      transcript = over.transcript;
-      mid = over.later;
-      hands = over.hands;
-      said = followed.said;
+      said = SaidHanded id handed ∷ followed.said;
       later_conn = followed.later_conn;
       later = followed.later;
-      follows = followed.follows;
+      makes = record {
+        handed = handed;
+        transcript = over.transcript;
+        mid = over.later;
+        hands = over.hands;
+        behind = followed.said;
+        follows = followed.makes;
+        outputs_are = refl;
+      };
       outputs_are = tells_both before mid outputs (SaidHanded id handed ∷ []) followed.said
           (tells_push before before mid (OutputHanded cxn what) refl is
           ∙ ap (λ (said : Said). map said_of before ++ said ∷ [])
@@ -414,10 +416,10 @@ module _ {D : Type 0} {g : Ghosts D} (id now : ℕ) (conn : ConnPast) (past : Pe
 
     pub hand_on_not : (fault : Fault) (c : Connection) (peer : Peer D g)
         → FollowedNot id now (with_transcript conn over.transcript) over.later fault c peer
-        → HandedOnNot id now conn past fault c peer
+        → PairRefused (FailsToHand id now conn past fault) id c peer
     hand_on_not fault c peer followed = record {
       later_conn = followed.later_conn;
       later = followed.later;
-      why = inr (inr (handed, over.transcript, over.later, over.hands, followed.follows));
+      refuses = inr (inr (handed, over.transcript, over.later, over.hands, followed.refuses));
       stand = followed.stand;
     }

@@ -1,35 +1,29 @@
 -- A step calls disks only at its events: whatever has happened to them when it ends had happened before it, or by the
 -- end of one of its events.
-use Rattle.std.proofs.Common.{◌≡◌, ◌⊎◌, ◌+◌, ◌++◌, ℕ, zero, suc, Bool, true, false, Option, Some, List, [], ◌∷◌}
-use Rattle.std.proofs.Common.{length, take, map, refl, sym, ap, ◌∙◌, subst, inl, inr}
+use Rattle.std.proofs.Common.{◌≡◌, ◌⊎◌, ◌+◌, ◌++◌, ℕ, zero, suc, Bool, true, false, Option, Some, List, [], ◌∷◌, length}
+use Rattle.std.proofs.Common.{take, map, refl, sym, ap, ◌∙◌, subst, inl, inr}
 use Rattle.std.specs.Prelude.{if◌then◌else◌}
 use Rattle.std.specs.Global.{Vec}
 use Rattle.std.specs.List.{AllByRecursion, slice_get}
 use Rattle.std.proofs.Math.Seq.{take-length}
-use Rattle.conn_core.specs.declared.outcome.Outcome.{Outcome}
 use Rattle.disk_model.specs.declared.choice.Choice.{Choice}
 use Rattle.recovery.specs.Image.{Log}
-use Rattle.peer_queue.specs.Settled.{key_in}
 use Rattle.peer_queue.specs.declared.limits.Owed.{Owed}
 use Rattle.peer_queue.specs.declared.limits.Owed.TheVariants.{New, Already}
-use Rattle.peer_queue.specs.declared.settled.Settled.{Settled}
-use Rattle.peer_queue.specs.declared.settled.Settled.TheVariants.{Answered, Dropped, Later, Ready}
-use Rattle.world_core.specs.Past.{Armed, ConnPast, Life, Past, PeerPast, rank_of, with_past, with_peer}
-use Rattle.world_core.specs.Past.{with_tape}
-use Rattle.world_core.specs.Events.{AllDo, Claims, Does, Event, Fails, Owes, Refuses, Returns, Settles, Sheds}
-use Rattle.world_core.specs.Events.{owed_as, owing_as, settled_as, settling, shed_peer}
+use Rattle.world_core.specs.Past.{Armed, Life, Past, PeerPast, rank_of, with_past, with_peer, with_tape}
+use Rattle.world_core.specs.Events.{AllDo, Does, Event, Fails, Owes, Refuses, Sheds, owed_as, owing_as, shed_peer}
 use Rattle.world_core.specs.Events.AllDo.{Start, Next}
-use Rattle.world_core.specs.Exchange.{FailsToBreak, FailsToHand, FailsToRead, FailsToSupply, Follows, FollowsNot}
-use Rattle.world_core.specs.Exchange.{HandsOver, IsConn, TicksEach, at_moment, settle_events}
-use Rattle.world_core.specs.Exchange.HandsOver.{None_there, Taken_over, Has_no_room, Is_shut}
+use Rattle.world_core.specs.Exchange.{FailsToBreak, FailsToHand, FailsToRead, FailsToSupply, FailsToTick, OnPair}
+use Rattle.world_core.specs.Exchange.{PairStep, RefusesOn, TakesArticle, TakesBreak, TakesBytes, TakesHand, TakesMoment}
+use Rattle.world_core.specs.Exchange.{TicksEach, at_moment}
 use Rattle.world_core.specs.Exchange.TicksEach.{Start as NoneTicked, Next as OneTicked}
 use Rattle.world_core.specs.Halts.{AtRest, ByChoice, CallsDisks, FailsToOpen, Manner, Meets, RefusesRestart}
 use Rattle.world_core.specs.Halts.{RefusesStop, TakesStop, halted, left, left_peer, restart_events}
 use Rattle.world_core.specs.Moments.{CallsNoOther, Ended, HadLog, HasLog, IsUnderWay, MayMake, WasLeft}
-use Rattle.world_core.specs.Runs.{Does as DoesStep, Refuses as RefusesAny, RefusesConn, RefusesTapes, Takes}
+use Rattle.world_core.specs.Runs.{Does as DoesStep, Refuses as RefusesAny, RefusesTapes, RefusesWorld, Takes}
 use Rattle.world_core.specs.Steps.{Good, NotGood, Reading, RefusesFlushing, RefusesImport, RefusesLine, RefusesNamed}
-use Rattle.world_core.specs.Steps.{RefusesPart, RefusesRotation, RefusesSeal, RefusesShed, RefusesTelling}
-use Rattle.world_core.specs.Steps.{TakesReading, begun_at, flush_events, is_named, owes_from}
+use Rattle.world_core.specs.Steps.{RefusesPart, RefusesRotation, RefusesSeal, RefusesShed, RefusesTelling, TakesReading}
+use Rattle.world_core.specs.Steps.{begun_at, flush_events, is_named, owes_from}
 use Rattle.world_core.specs.Output.{Said}
 use Rattle.recovery.specs.declared.fault.TapeFault.TheVariants.{Disk}
 use Rattle.world_core.specs.declared.fault.Fault.{Fault}
@@ -37,8 +31,10 @@ use Rattle.world_core.specs.declared.fault.Fault.TheVariants.{Tape}
 use Rattle.world_core.specs.declared.step.Step.{Step}
 use Rattle.world_core.specs.declared.step.Step.TheVariants.{Line, Flush, Begin, Part, Seal, Connect, Hand, Bytes}
 use Rattle.world_core.specs.declared.step.Step.TheVariants.{Article, Break, Tick, Shed, Import, Rotate, Stop, Restart}
-use Rattle.world_core.specs.declared.output.Handed.{Handed as Handover}
 use Rattle.world_core.proofs.AcknowledgedLines.{all_at}
+use Rattle.world_core.proofs.PairGoesOn.{Goes, keeps_pair, went_article, went_break, went_bytes, went_hand}
+use Rattle.world_core.proofs.PairGoesOn.{went_moment, went_unbroken, went_unhanded, went_unread, went_unsupplied}
+use Rattle.world_core.proofs.PairGoesOn.{went_unticked}
 use Rattle.world_core.proofs.Moments.{log_of, not_none, starts}
 use Rattle.world_core.proofs.MarksAndNotes.{first_all, prefix_all, last_all, map_set}
 
@@ -83,9 +79,6 @@ quiet_put was now rank peer new here changed same =
 abbrev IsQuiet : Event → Type 0
 IsQuiet (Owes rank token id) = Unit {0}
 IsQuiet (Sheds rank numbers) = Unit {0}
-IsQuiet (Claims rank id now) = Unit {0}
-IsQuiet (Returns rank id number) = Unit {0}
-IsQuiet (Settles rank id now outcome) = Unit {0}
 IsQuiet event = ⊥
 
 owing_log : (owed : Owed) (number : ℕ) (token id : List ℕ) (peer : PeerPast)
@@ -93,25 +86,12 @@ owing_log : (owed : Owed) (number : ℕ) (token id : List ℕ) (peer : PeerPast)
 owing_log New number token id peer = refl
 owing_log Already number token id peer = refl
 
-settled_log : (settled : Settled) (number : ℕ) (peer : PeerPast)
-    → (settled_as settled number peer).tape.log ≡ peer.tape.log
-settled_log (Answered code) number peer = refl
-settled_log (Dropped cause) number peer = refl
-settled_log (Later moment) number peer = refl
-settled_log Ready number peer = refl
-
 quiet_taken : (event : Event) (was now : Past) → IsQuiet event → Does event was now → logs now ≡ logs was
 quiet_taken (Owes rank token id) was now quiet d =
     quiet_put was now rank d.peer _ d.here d.changed
     (owing_log (owed_as (was.last + 1) d.peer) (was.last + 1) token id d.peer)
 quiet_taken (Sheds rank numbers) was now quiet d =
     quiet_put was now rank d.peer (shed_peer numbers d.peer) d.here d.changed refl
-quiet_taken (Claims rank id moment) was now quiet d =
-    quiet_put was now rank d.peer _ d.here d.changed (log_of _ _ d.reads.all)
-quiet_taken (Returns rank id number) was now quiet d = quiet_put was now rank d.peer _ d.here d.changed refl
-quiet_taken (Settles rank id moment outcome) was now quiet d =
-    quiet_put was now rank d.peer _ d.here d.changed
-    (settled_log (settling d.peer moment outcome) (key_in outcome) d.peer)
 quiet_taken event was now quiet d = absurd quiet
 
 quiet_refused : (event : Event) (was now : Past) (fault : Fault) → IsQuiet event → Refuses event was fault now
@@ -119,12 +99,6 @@ quiet_refused : (event : Event) (was now : Past) (fault : Fault) → IsQuiet eve
 quiet_refused (Owes rank token id) was now fault quiet r =
     quiet_put was now rank r.peer (with_tape r.peer r.tape) r.here r.changed (log_of _ _ r.refused.2)
 quiet_refused (Sheds rank numbers) was now fault quiet r =
-    quiet_put was now rank r.peer (with_tape r.peer r.tape) r.here r.changed (log_of _ _ r.refused.1)
-quiet_refused (Claims rank id moment) was now fault quiet r =
-    quiet_put was now rank r.peer (with_tape r.peer r.tape) r.here r.changed (log_of _ _ r.refused.1.all)
-quiet_refused (Returns rank id number) was now fault quiet r =
-    quiet_put was now rank r.peer (with_tape r.peer r.tape) r.here r.changed (log_of _ _ r.refused.1)
-quiet_refused (Settles rank id moment outcome) was now fault quiet r =
     quiet_put was now rank r.peer (with_tape r.peer r.tape) r.here r.changed (log_of _ _ r.refused.1)
 quiet_refused event was now fault quiet r = absurd quiet
 
@@ -152,44 +126,24 @@ owes_quiet rank token id named (peer ∷ peers) = by (is_named named peer) (owes
     by true more = (tt, more)
     by false more = more
 
-settles_quiet : (rank id now : ℕ) (outcomes : List Outcome)
-    → AllByRecursion IsQuiet (settle_events rank id now outcomes)
-settles_quiet rank id now [] = tt
-settles_quiet rank id now (outcome ∷ outcomes) = (tt, settles_quiet rank id now outcomes)
-
--- ---- what follows on a connection
+-- ---- a step on a connection
 
 past_of : (later life : Life) → later ≡ life → logs later.past ≡ logs life.past
 past_of later life same = ap (λ (l : Life). logs l.past) same
 
-followed_quiet : (id : ℕ) (was : _) (conn : ConnPast) (life : Life) (outputs : List Said) (later : Life)
-    → Follows id was conn life outputs later → logs later.past ≡ logs life.past
-followed_quiet id was conn life outputs later f =
-    past_of later _ f.changed ∙ all_quiet life.past f.past _ f.settles (settles_quiet conn.rank id life.now _)
-
-not_followed_quiet : (id : ℕ) (conn : ConnPast) (life : Life) (fault : Fault) (later : Life)
-    → FollowsNot id conn life fault later → logs later.past ≡ logs life.past
-not_followed_quiet id conn life fault later f =
-    past_of later _ f.changed
-    ∙ all_quiet life.past f.past _ f.settles (settles_quiet conn.rank id life.now f.done)
-
-handed_quiet : (id now : ℕ) (conn : ConnPast) (peer : PeerPast) (past : Past) (handed : Handover) (h : _) (later : Past)
-    → slice_get past.peers conn.rank ≡ Some peer → HandsOver id now conn peer past handed h later
-    → logs later ≡ logs past
-handed_quiet id now conn peer past _ _ _ here (None_there tape works none reads) =
-    quiet_put past _ conn.rank peer (with_tape peer tape) here refl (log_of _ _ reads.all)
-handed_quiet id now conn peer past _ _ _ here (Taken_over debt later is ready does) =
-    all_quiet past later _ does (tt, tt)
-handed_quiet id now conn peer past _ _ _ here (Has_no_room debt later is ready does) =
-    all_quiet past later _ does (tt, (tt, tt))
-handed_quiet id now conn peer past _ _ _ here (Is_shut debt later is ready does) =
-    all_quiet past later _ does (tt, (tt, tt))
+on_quiet : {A : Type 0} (T : PairStep A) (id : ℕ) → Goes (Hand id) id T
+    → (life : Life) (reports : A) (later : Life) → OnPair T id life reports later → logs later.past ≡ logs life.past
+on_quiet T id goes life reports later t =
+    let went = goes life.now t.conn t.peer reports t.later_conn t.later_peer t.makes in
+    past_of later _ t.changed
+    ∙ quiet_put life.past (with_peer life.past t.conn.rank t.later_peer) t.conn.rank t.peer t.later_peer t.is.peer_is
+    refl (keeps_pair (Hand id) id life.now t.conn t.peer t.later_conn t.later_peer went).0.log
 
 ticked_quiet : (begun : Life) (count : ℕ) (outputs : List Said) (later : Life) → TicksEach begun count outputs later
     → logs later.past ≡ logs begun.past
 ticked_quiet begun _ _ _ NoneTicked = refl
-ticked_quiet begun _ _ _ (OneTicked count outputs more mid later id conn peer before here at follows) =
-    followed_quiet id _ _ mid more later follows ∙ ticked_quiet begun count outputs mid before
+ticked_quiet begun _ _ _ (OneTicked count outputs more mid later before (id, at, t)) =
+    on_quiet TakesMoment id (went_moment (Hand id) id) mid more later t ∙ ticked_quiet begun count outputs mid before
 
 begun_quiet : (peers : List PeerPast)
     → map (λ (peer : PeerPast). peer.tape.log) (map (λ (peer : PeerPast). record peer { parted = false }) peers)
@@ -339,14 +293,15 @@ does_at Seal life outputs later (runs, (past, (number, may, does, said), changed
     moved Seal life past later changed (at_all Seal life life.past _ (runs, refl, (number, may, refl)) past does)
 does_at (Connect name) life outputs later (runs, t) = quiet (Connect name) life later (past_of later _ t.changed)
 does_at (Hand id) life outputs later (runs, t) =
-    quiet (Hand id) life later (followed_quiet id _ _ (with_past life t.past) t.behind later t.follows
-    ∙ handed_quiet id life.now t.conn t.peer life.past t.handed t.transcript t.past t.is.peer_is t.hands)
+    quiet (Hand id) life later (on_quiet TakesHand id (went_hand id) life outputs later t)
 does_at (Bytes id octets) life outputs later (runs, t) =
-    quiet (Bytes id octets) life later (followed_quiet id _ _ life outputs later t.follows)
+    quiet (Bytes id octets) life later (on_quiet (TakesBytes octets.items) id
+    (went_bytes octets.items (Hand id) id) life outputs later t)
 does_at (Article id found) life outputs later (runs, t) =
-    quiet (Article id found) life later (followed_quiet id _ _ life outputs later t.follows)
+    quiet (Article id found) life later (on_quiet (TakesArticle found) id
+    (went_article found (Hand id) id) life outputs later t)
 does_at (Break id) life outputs later (runs, t) =
-    quiet (Break id) life later (followed_quiet id _ _ life outputs later t.follows)
+    quiet (Break id) life later (on_quiet TakesBreak id (went_break (Hand id) id) life outputs later t)
 does_at (Tick now) life outputs later (runs, t) =
     quiet (Tick now) life later (ticked_quiet (at_moment now life) _ outputs later t)
 does_at (Shed name) life outputs later (runs, (past, (rank, numbers, here, does, said), changed)) =
@@ -379,15 +334,12 @@ tapes_at step R life fault later each (inl off) = still step life later off.2
 tapes_at step R life fault later each (inr (runs, (past, refuses, changed))) =
     moved step life past later changed (each runs past refuses)
 
-conn_at : (step : Step) (id : ℕ) (R : Life → ConnPast → PeerPast → Fault → Life → Type 0) (life : Life)
-    (fault : Fault) (later : Life)
-    → ((conn : ConnPast) (peer : PeerPast) → IsConn id life conn peer → R life conn peer fault later
-    → logs later.past ≡ logs life.past)
-    → RefusesConn id R life fault later → AtEnd step life later.past
-conn_at step id R life fault later each (inl off) = still step life later off.2
-conn_at step id R life fault later each (inr (runs, inl none)) = still step life later none.2
-conn_at step id R life fault later each (inr (runs, inr (conn, peer, is, fails))) =
-    quiet step life later (each conn peer is fails)
+conn_at : (step : Step) (id : ℕ) (R : PairStep Fault) → Goes (Hand id) id R → (life : Life) (fault : Fault)
+    (later : Life) → RefusesWorld (RefusesOn R id) life fault later → AtEnd step life later.past
+conn_at step id R goes life fault later (inl off) = still step life later off.2
+conn_at step id R goes life fault later (inr (runs, inl none)) = still step life later none.2
+conn_at step id R goes life fault later (inr (runs, inr on)) =
+    quiet step life later (on_quiet R id goes life fault later on)
 
 same_at : (step : Step) (life : Life) (past : Past) → past ≡ life.past → AtEvents step life past
 same_at step life past same = at_same step life life.past past (ap logs same) (at_first step life)
@@ -426,30 +378,6 @@ seal_at life runs past fault (inr (number, may, why)) =
     telling_at Seal life _ past fault
     (at_fault Seal life life.past _ (runs, refl, (number, may, refl)) fault past) why
 
-hand_at : (id : ℕ) (life : Life) (conn : ConnPast) (peer : PeerPast) (fault : Fault) (later : Life)
-    → IsConn id life conn peer → FailsToHand id life conn peer fault later → logs later.past ≡ logs life.past
-hand_at id life conn peer fault later is (inl memory) = past_of later life memory.1
-hand_at id life conn peer fault later is (inr (inl (past, fails, changed))) =
-    past_of later _ changed ∙ fails_quiet life.past past _ fault (tt, tt) fails
-hand_at id life conn peer fault later is (inr (inr (inl (memory, ready, (debt, past, least, does, changed))))) =
-    past_of later _ changed ∙ all_quiet life.past past _ does (tt, (tt, tt))
-hand_at id life conn peer fault later is (inr (inr (inr (handed, h, past, over, follows)))) =
-    not_followed_quiet id _ (with_past life past) fault later follows
-    ∙ handed_quiet id life.now conn peer life.past handed h past is.peer_is over
-
-bytes_at : (id : ℕ) (octets : List ℕ) (life : Life) (conn : ConnPast) (peer : PeerPast) (fault : Fault) (later : Life)
-    → FailsToRead id octets life conn peer fault later → logs later.past ≡ logs life.past
-bytes_at id octets life conn peer fault later (inl (memory, (mid, some, changed))) = past_of later _ changed
-bytes_at id octets life conn peer fault later (inr (h, rest, came, follows)) =
-    not_followed_quiet id _ life fault later follows
-
-article_at : (id : ℕ) (found : _) (life : Life) (conn : ConnPast) (peer : PeerPast) (fault : Fault) (later : Life)
-    → FailsToSupply id found life conn peer fault later → logs later.past ≡ logs life.past
-article_at id found life conn peer fault later (inl none) = past_of later life none.2
-article_at id found life conn peer fault later (inr (number, wanted, inl memory)) = past_of later life memory.1
-article_at id found life conn peer fault later (inr (number, wanted, inr (handing, given, follows))) =
-    not_followed_quiet id _ life fault later follows
-
 refused_stop : (peer : Option (List ℕ)) (call : ℕ) (step : Step) (life : Life) (fault : Fault) (later : Life)
     → RefusesStop peer call life fault later → AtEnd step life later.past
 refused_stop peer zero step life fault later (why, same) = still step life later same
@@ -485,20 +413,17 @@ refuses_at Seal life fault later r =
     tapes_at Seal RefusesSeal life fault later (λ runs past. seal_at life runs past fault) r
 refuses_at (Connect name) life fault later (inl off) = still (Connect name) life later off.2
 refuses_at (Connect name) life fault later (inr (runs, is)) = still (Connect name) life later is.1
-refuses_at (Hand id) life fault later r =
-    conn_at (Hand id) id (FailsToHand id) life fault later (λ conn peer. hand_at id life conn peer fault later) r
+refuses_at (Hand id) life fault later r = conn_at (Hand id) id FailsToHand (went_unhanded id) life fault later r
 refuses_at (Bytes id octets) life fault later r =
-    conn_at (Bytes id octets) id (FailsToRead id octets.items) life fault later
-    (λ conn peer is. bytes_at id octets.items life conn peer fault later) r
+    conn_at (Bytes id octets) id (FailsToRead octets.items) (went_unread octets.items (Hand id) id) life fault later r
 refuses_at (Article id found) life fault later r =
-    conn_at (Article id found) id (FailsToSupply id found) life fault later
-    (λ conn peer is. article_at id found life conn peer fault later) r
+    conn_at (Article id found) id (FailsToSupply found) (went_unsupplied found (Hand id) id) life fault later r
 refuses_at (Break id) life fault later r =
-    conn_at (Break id) id (FailsToBreak id) life fault later
-    (λ conn peer is. not_followed_quiet id _ life fault later) r
+    conn_at (Break id) id FailsToBreak (went_unbroken (Hand id) id) life fault later r
 refuses_at (Tick now) life fault later (inl off) = still (Tick now) life later off.2
 refuses_at (Tick now) life fault later (inr (runs, r)) =
-    quiet (Tick now) life later (not_followed_quiet r.id _ r.mid fault later r.follows
+    quiet (Tick now) life later
+    (on_quiet FailsToTick r.fails.0 (went_unticked (Hand r.fails.0) r.fails.0) r.mid fault later r.fails.2
     ∙ ticked_quiet (at_moment now life) r.count r.outputs r.mid r.prefix)
 refuses_at (Shed name) life fault later r =
     tapes_at (Shed name) (RefusesShed name) life fault later (λ runs past. named_at (Shed name) life name _ past fault

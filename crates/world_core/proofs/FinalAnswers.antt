@@ -1,19 +1,17 @@
 -- Each final answer among a peer's notes has a verdict, which a connection came to as the steps went on.
-use Rattle.std.proofs.Common.{◌≡◌, ◌⊎◌, ℕ, zero, suc, ◌+◌, Bool, true, false, cond, Option, None}
-use Rattle.std.proofs.Common.{Some, List, [], ◌∷◌, ◌++◌, drop, map, refl, sym, ap, ◌∙◌, subst, inl, inr}
-use Rattle.std.proofs.Common.{arith, append_assoc, append-nil}
+use Rattle.std.proofs.Common.{◌≡◌, ◌⊎◌, ℕ, zero, suc, ◌+◌, Bool, true, false, cond, Option, None, Some, List, [], ◌∷◌}
+use Rattle.std.proofs.Common.{◌++◌, drop, map, refl, sym, ap, ◌∙◌, subst, inl, inr, arith, append_assoc, append-nil}
 use Rattle.std.specs.Prelude.{◌==◌, Contains, if◌then◌else◌, option_map}
 use Rattle.std.proofs.Math.ListN.{set}
-use Rattle.std.proofs.lemmas.Bool.{cases_eq, eq-eqb, eqb-true}
+use Rattle.std.proofs.lemmas.Bool.{cases_eq, eq-eqb}
 use Rattle.std.proofs.lemmas.Option.{slice_get-map}
 use Rattle.std.specs.List.{AllByRecursion, slice_get}
-use Rattle.std.specs.List.Sorted.{IsStrictlyIncreasing}
 use Rattle.ledger_core.specs.State.{Owing}
 use Rattle.ledger_core.specs.declared.note.FinalCode.{FinalCode}
 use Rattle.ledger_core.specs.declared.note.Note.{Note}
 use Rattle.ledger_core.specs.declared.note.Note.TheVariants.{Drop, Final, Owe}
 use Rattle.conn_core.specs.Commands.{debt_in}
-use Rattle.conn_core.specs.History.{End, Event as Happening, Tick as Ticked, accepted, ends, outcomes}
+use Rattle.conn_core.specs.History.{End, Event as Happening, Offered, accepted, after, ends, outcomes}
 use Rattle.conn_core.specs.Stands.{Arises}
 use Rattle.conn_core.specs.declared.options.Options.{Options}
 use Rattle.conn_core.specs.declared.outcome.Outcome.{Outcome}
@@ -21,7 +19,6 @@ use Rattle.conn_core.specs.declared.outcome.Outcome.TheVariants.{Back, Deferred,
 use Rattle.conn_core.specs.declared.verdict.Verdict.{Verdict}
 use Rattle.conn_laws.specs.Laws.{AllAreTheirOwn, AllRight, IsRightAt}
 use Rattle.feed_conf.specs.declared.conf.PeerConf.{PeerConf}
-use Rattle.peer_queue.specs.DebtPlace.{Ready as ReadyPlace, moved}
 use Rattle.peer_queue.specs.Settled.{deferred_as}
 use Rattle.peer_queue.specs.Shed.{dropped}
 use Rattle.peer_queue.specs.declared.limits.Owed.{Owed}
@@ -29,17 +26,15 @@ use Rattle.peer_queue.specs.declared.limits.Owed.TheVariants.{Already, New}
 use Rattle.peer_queue.specs.declared.settled.Settled.{Settled}
 use Rattle.peer_queue.specs.declared.settled.Settled.TheVariants.{Answered, Dropped, Later, Ready}
 use Rattle.recovery.specs.Notes.{History}
-use Rattle.world_core.specs.Past.{ConnPast, Life, Past, PeerPast, TapePast, conn_at, limits_of, options_of, with_conn}
-use Rattle.world_core.specs.Past.{with_past, with_peer, with_places, with_tape}
-use Rattle.world_core.specs.Events.{Acknowledges, AllDo, Claims, Closes, Does, Event, Imports, IsCandidate, Opens}
-use Rattle.world_core.specs.Events.{OpensIntake, Owes, Parts, Returns, Rotates, Sees, Settles, Sheds, Spills}
-use Rattle.world_core.specs.Events.{claimed_peer, closing, import_key, imported_as, opened_peer, owed_as, owing_as}
-use Rattle.world_core.specs.Events.{parted, settled, settled_as, shed_peer}
+use Rattle.world_core.specs.Past.{ConnPast, Life, Past, PeerPast, TapePast, conn_at, limits_of, options_of, with_peer}
+use Rattle.world_core.specs.Past.{with_tape}
+use Rattle.world_core.specs.Events.{Acknowledges, Claims, Closes, Does, Event, Imports, IsCandidate, Opens}
+use Rattle.world_core.specs.Events.{OpensIntake, Owes, Parts, Returns, Rotates, Sees, Settles, Sheds, Spills, closing}
+use Rattle.world_core.specs.Events.{import_key, imported_as, opened_peer, owed_as, owing_as, parted, settled}
+use Rattle.world_core.specs.Events.{settled_as, shed_peer}
 use Rattle.world_core.specs.Tapes.{noted_at}
-use Rattle.world_core.specs.Exchange.{HandsOver, IsConn, TicksEach, at_moment, fresh_conn, settle_events, ticked}
-use Rattle.world_core.specs.Exchange.{unsettled, with_transcript}
-use Rattle.world_core.specs.Exchange.HandsOver.{None_there, Taken_over, Has_no_room, Is_shut}
-use Rattle.world_core.specs.Exchange.TicksEach.{Start as NoneTicked, Next as OneTicked}
+use Rattle.world_core.specs.Exchange.{AllSettleAt, IsConn, None_settled, OnPair, One_settled, at_moment, fresh_conn}
+use Rattle.world_core.specs.Exchange.{unsettled, with_pair}
 use Rattle.world_core.specs.Halts.{AtRest, ByChoice, Manner, left, left_peer}
 use Rattle.world_core.specs.Laws.{AllFinalsAreRight, Comes, HasVerdict, Passes, Rules, WasAccepted, WasTaken}
 use Rattle.world_core.specs.Laws.Comes.{No_step, Step_taken, Step_refused}
@@ -50,19 +45,16 @@ use Rattle.world_core.specs.Output.{Said}
 use Rattle.world_core.specs.declared.fault.Fault.{Fault}
 use Rattle.world_core.specs.declared.step.Step.{Step}
 use Rattle.world_core.specs.declared.step.Step.TheVariants.{Hand, Tick}
-use Rattle.world_core.specs.declared.output.Handed.{Handed as Handover}
 use Rattle.world_core.proofs.ConnectionMade.{at_last}
-use Rattle.world_core.proofs.TranscriptsGrow.{Grew, accepted_offered, ends_grew, grew_outside, grew_same, grew_then}
+use Rattle.world_core.proofs.TranscriptsGrow.{Grew, accepted_offered, ends_grew, grew_same, grew_then}
 use Rattle.world_core.proofs.HeldNumbers.{contains_first, contains_more}
-use Rattle.world_core.proofs.PairInWorld.{conn_there, put_other}
+use Rattle.world_core.proofs.PairInWorld.{once, put_other}
+use Rattle.world_core.proofs.PairGoesOn.{PairWent, Went, keeps_pair}
 use Rattle.world_core.proofs.PeerInWorld.{get_apart, get_set}
-use Rattle.world_core.proofs.MarksAndNotes.{prefix_all}
+use Rattle.world_core.proofs.MarksAndNotes.{last_all, prefix_all}
 use Rattle.world_core.proofs.RecoveredNotes.{comes_safe, comes_sound, contains_taken}
-use Rattle.world_core.proofs.WalkOverSteps.{Passage, WentOn, events_all, refuses_make, takes_make}
-use Rattle.world_core.proofs.WalkOverTapes.{Keeper, OnTape, events_keep}
-
-once : {A : Type 0} (x y : A) → Some x ≡ Some y → x ≡ y
-once x y same = cc
+use Rattle.world_core.proofs.WalkOverSteps.{Passage, refuses_make, takes_make}
+use Rattle.world_core.proofs.WalkOverTapes.{Keeper, OnTape}
 
 -- an element of a list, if a property holds of all of them
 all_contained : {A : Type 0} (P : A → Type 0) (xs : List A) (x : A) → AllByRecursion P xs → Contains xs x → P x
@@ -124,10 +116,6 @@ pub record AllRightly (V : Says) (was now : List PeerPast) : Type 0 where
   pub fore : (rank : ℕ) (peer : PeerPast) → slice_get was rank ≡ Some peer
       → (later : PeerPast) × (slice_get now rank ≡ Some later) × (later.conf ≡ peer.conf)
   pub back : (rank : ℕ) (peer : PeerPast) → slice_get now rank ≡ Some peer → PeerRight V was rank peer
-
--- the claim that always holds
-abbrev Anyhow : Says
-Anyhow rank number code = Unit {0}
 
 right_weaker : (V W : Says) → ((rank number : ℕ) (code : FinalCode) → V rank number code → W rank number code)
     → (was now : List PeerPast) → AllRightly V was now → AllRightly W was now
@@ -325,16 +313,20 @@ module _ (V : Says) where
 
   -- ---- events
 
-  -- if an outcome goes to a peer, it is right
-  abbrev EventRight : Event → Type 0
-  EventRight (Settles rank id now outcome) = IsRight rank outcome
-  EventRight event = Unit {0}
+  -- an event that is on no connection
+  abbrev OffConns : Event → Type 0
+  OffConns (Claims rank id now) = ⊥
+  OffConns (Returns rank id number) = ⊥
+  OffConns (Settles rank id now outcome) = ⊥
+  OffConns event = Unit {0}
 
-  on_right : (event : Event) → OnTape event → EventRight event
-  on_right (Settles rank id now outcome) on = absurd on
-  on_right event on = tt
+  off_conns : (event : Event) → OnTape event → OffConns event
+  off_conns (Claims rank id now) on = on
+  off_conns (Returns rank id number) on = on
+  off_conns (Settles rank id now outcome) on = on
+  off_conns event on = tt
 
-  right_does : (event : Event) → EventRight event → (past later : Past) → Does event past later
+  right_does : (event : Event) → OffConns event → (past later : Past) → Does event past later
       → AllRightSince past later
   right_does (Owes rank token id) right past later d =
       one_put past later rank d.peer _ d.here
@@ -359,15 +351,9 @@ module _ (V : Says) where
       one_put past later rank d.peer (shed_peer numbers d.peer) d.here
       (right_more rank d.peer (shed_peer numbers d.peer) (dropped numbers) refl refl
       (λ n code has. absurd (no_drops numbers n code has))) d.changed
-  right_does (Claims rank id now) right past later d =
-      one_put past later rank d.peer (claimed_peer id d.debt.0 d.tape d.peer) d.here
-      (right_notes rank d.peer (claimed_peer id d.debt.0 d.tape d.peer) refl (notes_of d.tape _ d.reads.all)) d.changed
-  right_does (Returns rank id number) right past later d =
-      one_put past later rank d.peer (with_places d.peer (moved d.peer.places number ReadyPlace)) d.here
-      (right_notes rank d.peer (with_places d.peer (moved d.peer.places number ReadyPlace)) refl refl) d.changed
-  right_does (Settles rank id now outcome) right past later d =
-      one_put past later rank d.peer (settled now outcome d.peer) d.here
-      (settled_right rank now outcome d.peer right) d.changed
+  right_does (Claims rank id now) right past later d = absurd right
+  right_does (Returns rank id number) right past later d = absurd right
+  right_does (Settles rank id now outcome) right past later d = absurd right
   right_does (Sees number) right past later d = none_put past later (ap (λ (p : Past). p.peers) d.changed)
   right_does Acknowledges right past later d = none_put past later (ap (λ (p : Past). p.peers) d.changed)
   right_does (Opens rank) right past later d =
@@ -379,10 +365,13 @@ module _ (V : Says) where
   right_does OpensIntake right past later d = none_put past later (ap (λ (p : Past). p.peers) d.changed)
 
   -- outcomes that are right go to the peer
-  right_settles : (rank id now : ℕ) (os : List Outcome) → AllByRecursion (IsRight rank) os
-      → AllByRecursion EventRight (settle_events rank id now os)
-  right_settles rank id now [] all = tt
-  right_settles rank id now (o ∷ os) all = (all.0, right_settles rank id now os all.1)
+  right_all : (rank id now : ℕ) (peer : PeerPast) (os : List Outcome) (later : PeerPast)
+      → AllByRecursion (IsRight rank) os → AllSettleAt id now peer os later → HasRight V rank peer later
+  right_all rank id now peer _ _ all None_settled = right_same rank peer
+  right_all rank id now peer _ _ all (One_settled os o mid later before one) =
+      right_then rank peer mid later
+      (right_all rank id now peer os mid (prefix_all (IsRight rank) os (o ∷ []) all) before)
+      (subst (HasRight V rank mid) (sym one.changed) (settled_right rank now o mid (last_all (IsRight rank) os o all)))
 
   -- ---- another tape with the same notes, a stop, a number that is kept
 
@@ -404,8 +393,8 @@ module _ (V : Says) where
 
   abbrev rightly : Keeper
   rightly = record {
-    ON = EventRight;
-    on_tape = on_right;
+    ON = OffConns;
+    on_tape = off_conns;
     KEEPS = AllRightSince;
     alike = none_put;
     joined = λ was mid now one other. all_then was.peers mid.peers now.peers one other;
@@ -414,22 +403,10 @@ module _ (V : Says) where
     keeps_begun = λ past. begun_right past.peers;
   }
 
--- whichever event is taken, no peer is lost, and each keeps its settings
-any_event : (event : Event) → EventRight Anyhow event
-any_event (Settles rank id now outcome) = λ verdict is. tt
-any_event event = tt
-
-none_lost : (begun later : Past) (events : List Event) → AllDo begun events later → AllRightSince Anyhow begun later
-none_lost begun later events does =
-    events_all (rightly Anyhow) any_event (left_right Anyhow) begun later events does
-
 -- ---- connections by their numbers
 
 abbrev Entry : Type 0
 Entry = ℕ × ConnPast
-
-abbrev ids_of : List Entry → List ℕ
-ids_of conns = map (λ (entry : Entry). entry.0) conns
 
 abbrev put : ℕ → ConnPast → Entry → Entry
 put id conn entry = if entry.0 == id then (id, conn) else entry
@@ -464,17 +441,6 @@ put_own : (conns : List Entry) (id : ℕ) (conn found : ConnPast)
 put_own [] id conn found here = let never : None ≡ Some found = here in cc
 put_own (e ∷ conns) id conn found here =
     put_own_step (e.0 == id) e conns id conn found refl (put_own conns id conn found) here
-
-ids_step : (b : Bool) (e : Entry) (conns : List Entry) (id : ℕ) (conn : ConnPast) → (e.0 == id) ≡ b
-    → ids_of (map (put id conn) conns) ≡ ids_of conns
-    → ids_of ((if b then (id, conn) else e) ∷ map (put id conn) conns) ≡ ids_of (e ∷ conns)
-ids_step true e conns id conn is rest =
-    ap (λ (n : ℕ). n ∷ ids_of (map (put id conn) conns)) (sym (eqb-true e.0 id is)) ∙ ap (λ l. e.0 ∷ l) rest
-ids_step false e conns id conn is rest = ap (λ l. e.0 ∷ l) rest
-
-ids_put : (conns : List Entry) (id : ℕ) (conn : ConnPast) → ids_of (map (put id conn) conns) ≡ ids_of conns
-ids_put [] id conn = refl
-ids_put (e ∷ conns) id conn = ids_step (e.0 == id) e conns id conn refl (ids_put conns id conn)
 
 -- ---- what the connections of a world have accepted
 
@@ -591,77 +557,6 @@ come_on V life later carries all rank number code come =
       of_code = come.of_code;
     }
 
--- ---- what follows a step on a connection
-
-module _ (O : Owned) (id : ℕ) (conn : ConnPast) (life later : Life) (f : WentOn id conn life later)
-    (there : ConnPast) (is_there : conn_at life.conns id ≡ Some there) where
-  abbrev its_options : Options
-  its_options = options_of f.peer.conf
-
-  abbrev behind : Life
-  behind = with_conn (with_past life f.past) id f.next
-
-  next_there : conn_at behind.conns id ≡ Some f.next
-  next_there = put_here life.conns id f.next there is_there
-
-  follows_right : HasOwned O id conn → AllOwned O life.conns → Rights O life later
-  follows_right one owned =
-      let h = conn.transcript in
-      let kept = (none_lost life.past f.past _ f.settles).fore conn.rank f.peer f.here in
-      let right : (x : End) → Contains (ends its_options h) x → IsRight (HasCome behind) conn.rank x.outcome =
-      λ x among verdict final. record {
-        id = id;
-        conn = f.next;
-        peer = kept.0;
-        is = record { conn_is = next_there; peer_is = ap (slice_get f.past.peers) f.grew.0 ∙ kept.1 };
-        its = f.grew.0;
-        end = x;
-        among = subst (λ (conf : PeerConf). Contains (ends (options_of conf) f.next.transcript) x) (sym kept.2)
-            (ends_grew its_options h f.next.transcript f.grew.1 x among);
-        verdict = verdict;
-        is_final = final;
-        of_number = refl;
-        of_code = refl;
-      } in
-      subst (Rights O life) (sym f.changed) (record {
-        right = events_keep (rightly (HasCome behind)) life.past f.past _ f.settles
-            (right_settles (HasCome behind) conn.rank id life.now f.done
-            (prefix_all (IsRight (HasCome behind) conn.rank) f.done f.left
-            (subst (AllByRecursion (IsRight (HasCome behind) conn.rank)) f.split
-            (unsettled_all (IsRight (HasCome behind) conn.rank) its_options conn right))));
-        owned = put_owned O life.conns id f.next owned (λ ticket debt is.
-            subst (λ (n : ℕ). O n id debt) (sym f.grew.0)
-            (one ticket debt (sym (ap (λ (l : List Owing). slice_get l ticket) f.grew.1.same) ∙ is)));
-      })
-
-  follows_carries : conn.rank ≡ there.rank → Grew there.transcript conn.transcript → Carries life later
-  follows_carries rank grew = subst (Carries life) (sym f.changed) (λ at found here. elim (cases_eq at id) [
-    | inl same ↦
-        let own = once found there (sym here ∙ (ap (conn_at life.conns) same ∙ is_there)) in (
-          f.next,
-          ap (conn_at behind.conns) same ∙ next_there,
-          f.grew.0 ∙ (rank ∙ ap (λ (c : ConnPast). c.rank) (sym own)),
-          subst (λ (c : ConnPast). Grew c.transcript f.next.transcript) (sym own)
-              (grew_then there.transcript conn.transcript f.next.transcript grew f.grew.1),
-        )
-    | inr apart ↦ (found, put_other life.conns id at f.next apart ∙ here, refl, grew_same found.transcript)
-  ])
-
--- a connection whose transcript has grown has accepted nothing more
-grown_owned : (O : Owned) (id : ℕ) (conn new : ConnPast) → new.rank ≡ conn.rank
-    → Grew conn.transcript new.transcript → HasOwned O id conn → HasOwned O id new
-grown_owned O id conn new rank grew one ticket debt is =
-    subst (λ (n : ℕ). O n id debt) (sym rank)
-    (one ticket debt (sym (ap (λ (l : List Owing). slice_get l ticket) grew.same) ∙ is))
-
--- the moment is set of connections, and none comes or goes
-ticks_numbers : (begun : Life) (count : ℕ) (outputs : List Said) (later : Life) → TicksEach begun count outputs later
-    → ids_of later.conns ≡ ids_of begun.conns
-ticks_numbers begun _ _ _ NoneTicked = refl
-ticks_numbers begun _ _ _ (OneTicked count outputs more mid later id conn peer ticks here at follows) =
-    ap (λ (l : Life). ids_of l.conns) follows.changed ∙ ids_put mid.conns id _
-    ∙ ticks_numbers begun count outputs mid ticks
-
 -- ---- steps
 
 -- steps on tapes note no final answer
@@ -677,29 +572,107 @@ HandsOwed O step life = (rank id : ℕ) (debt : Owing) (conn : ConnPast) (peer :
     → IsConn id life conn peer → conn.rank ≡ rank
     → IsCandidate life.now peer debt → O rank id debt
 
-module _ (O : Owned) where
-  handed_owned : (id : ℕ) (life : Life) (conn : ConnPast) (peer : PeerPast) (handed : Handover) (h : List Happening)
-      (later : Past)
-      → HandsOwed O (Hand id) life
-      → HandsOver id life.now conn peer life.past handed h later → IsConn id life conn peer → HasOwned O id conn
-      → HasOwned O id (with_transcript conn h)
-  handed_owned id life conn peer _ _ _ owes (None_there tape works none reads) there one = one
-  handed_owned id life conn peer _ _ _ owes (Taken_over debt later is ready does) there one =
-      λ ticket other has. elim (accepted_offered (options_of peer.conf) conn.transcript debt ticket other has) [
-        | inl first ↦ one ticket other first
-        | inr own ↦ subst (O conn.rank id) (sym own) (owes conn.rank id debt conn peer refl there refl is)
-      ]
-  handed_owned id life conn peer _ _ _ owes (Has_no_room debt later is ready does) there one = one
-  handed_owned id life conn peer _ _ _ owes (Is_shut debt later is ready does) there one = one
+-- ---- a step on a connection
 
-  -- what a step makes of a world whose numbers rise, if the debts that it hands over were owed
+module _ (O : Owned) (step : Step) (id : ℕ) (life later : Life) (t : OnPair (Went step) id life tt later) where
+  open t use {conn, peer, is, later_conn, later_peer}
+
+  abbrev went : PairWent step id life.now conn peer later_conn later_peer
+  went = t.makes
+
+  abbrev its_options : Options
+  its_options = options_of peer.conf
+
+  abbrev behind : Life
+  behind = with_pair life id conn.rank later_conn later_peer
+
+  next_there : conn_at behind.conns id ≡ Some later_conn
+  next_there = put_here life.conns id later_conn conn is.conn_is
+
+  -- the connection may have accepted the peer's least candidate, and nothing more
+  new_owned : HandsOwed O step life → HasOwned O id conn → (ticket : ℕ) (debt : Owing)
+      → slice_get (accepted went.new.transcript) ticket ≡ Some debt → O conn.rank id debt
+  new_owned owes one ticket debt has = by went.came.accepts
+    where
+      by : Grew conn.transcript went.new.transcript
+          ⊎ ((step ≡ Hand id) × ((debt : Owing) × IsCandidate life.now peer debt
+          × (went.new.transcript ≡ after its_options conn.transcript (Offered debt)))) → O conn.rank id debt
+      by (inl grew) = one ticket debt (sym (ap (λ (l : List Owing). slice_get l ticket) grew.same) ∙ has)
+      by (inr (hand, (least, candidate, made))) =
+          let there = sym (ap (λ (l : List Happening). slice_get (accepted l) ticket) made) ∙ has in
+          elim (accepted_offered its_options conn.transcript least ticket debt there) [
+            | inl first ↦ one ticket debt first
+            | inr own ↦ subst (O conn.rank id) (sym own) (owes conn.rank id least conn peer hand is refl candidate)
+          ]
+
+  pair_right : HandsOwed O step life → AllOwned O life.conns → Rights O life later
+  pair_right owes owned =
+      let keeps = keeps_pair step id life.now conn peer later_conn later_peer went in
+      let now_here = get_set life.past.peers conn.rank peer later_peer is.peer_is in
+      let right : (x : End) → Contains (ends its_options went.new.transcript) x
+      → IsRight (HasCome behind) conn.rank x.outcome =
+      λ x among verdict final. record {
+        id = id;
+        conn = later_conn;
+        peer = later_peer;
+        is = record { conn_is = next_there; peer_is = ap (slice_get behind.past.peers) went.rank ∙ now_here };
+        its = went.rank;
+        end = x;
+        among = subst (λ (conf : PeerConf). Contains (ends (options_of conf) later_conn.transcript) x)
+            (sym keeps.0.conf)
+            (ends_grew its_options went.new.transcript later_conn.transcript went.grew x among);
+        verdict = verdict;
+        is_final = final;
+        of_number = refl;
+        of_code = refl;
+      } in
+      subst (Rights O life) (sym t.changed) (record {
+        right = all_put (HasCome behind) life.past.peers conn.rank peer later_peer is.peer_is
+            (right_then (HasCome behind) conn.rank peer went.mid later_peer
+            (right_notes (HasCome behind) conn.rank peer went.mid went.came.keeps.conf
+            (ap (λ (history : History). history.notes) went.came.history))
+            (right_all (HasCome behind) conn.rank id life.now went.mid went.done later_peer
+            (prefix_all (IsRight (HasCome behind) conn.rank) went.done went.left
+            (subst (AllByRecursion (IsRight (HasCome behind) conn.rank)) went.split
+            (unsettled_all (IsRight (HasCome behind) conn.rank) its_options went.new right))) went.settles));
+        owned = put_owned O life.conns id later_conn owned (λ ticket debt has.
+            subst (λ (n : ℕ). O n id debt) (sym went.rank)
+            (new_owned owes (owned id conn is.conn_is) ticket debt
+            (sym (ap (λ (l : List Owing). slice_get l ticket) went.grew.same) ∙ has)));
+      })
+
+  -- a connection whose moment is set accepts no debt
+  pair_carries : (step ≡ Hand id → ⊥) → Carries life later
+  pair_carries other = subst (Carries life) (sym t.changed) (λ at found here. elim (cases_eq at id) [
+    | inl same ↦
+        let own = once found conn (sym here ∙ (ap (conn_at life.conns) same ∙ is.conn_is)) in (
+          later_conn,
+          ap (conn_at behind.conns) same ∙ next_there,
+          went.rank ∙ ap (λ (c : ConnPast). c.rank) (sym own),
+          subst (λ (c : ConnPast). Grew c.transcript later_conn.transcript) (sym own)
+              (grew_then conn.transcript went.new.transcript later_conn.transcript (grew_new went.came.accepts)
+              went.grew),
+        )
+    | inr apart ↦ (found, put_other life.conns id at later_conn apart ∙ here, refl, grew_same found.transcript)
+  ])
+    where
+      grew_new : Grew conn.transcript went.new.transcript
+          ⊎ ((step ≡ Hand id) × ((debt : Owing) × IsCandidate life.now peer debt
+          × (went.new.transcript ≡ after its_options conn.transcript (Offered debt))))
+          → Grew conn.transcript went.new.transcript
+      grew_new (inl grew) = grew
+      grew_new (inr accepts) = absurd (other accepts.0)
+
+-- ---- any step
+
+module _ (O : Owned) where
+  -- what a step makes of a world, if the debts that it hands over were owed
   abbrev MakesRight : Step → Life → Life → Type 0
-  MakesRight step life later = HandsOwed O step life → IsStrictlyIncreasing (ids_of life.conns)
-      → AllOwned O life.conns → Rights O life later
+  MakesRight step life later = HandsOwed O step life → AllOwned O life.conns → Rights O life later
 
   changes_right : (step : Step) (life later : Life) → AllRightSince Never life.past later.past
       → later.conns ≡ life.conns → MakesRight step life later
-  changes_right step life later right same owes rising owned = record {
+  changes_right step life later right same owes owned = record {
     right = never_right (HasCome later) life.past later.past right;
     owned = subst (AllOwned O) (sym same) owned;
   }
@@ -707,63 +680,33 @@ module _ (O : Owned) where
   -- no connection is left
   halts_right : (step : Step) (life later : Life) → AllRightSince Never life.past later.past → later.conns ≡ []
       → MakesRight step life later
-  halts_right step life later right none owes rising owned = record {
+  halts_right step life later right none owes owned = record {
     right = never_right (HasCome later) life.past later.past right;
     owned = subst (AllOwned O) (sym none) (none_owned O);
   }
 
   connects_right : (step : Step) (life later : Life) (number rank : ℕ) → later.past ≡ life.past
       → later.conns ≡ life.conns ++ (number, fresh_conn rank) ∷ [] → MakesRight step life later
-  connects_right step life later number rank same conns owes rising owned = record {
+  connects_right step life later number rank same conns owes owned = record {
     right = none_put (HasCome later) life.past later.past (ap (λ (p : Past). p.peers) same);
     owned = subst (AllOwned O) (sym conns) (push_owned O life.conns number rank owned);
   }
 
-  goes_right : (step : Step) (id : ℕ) (conn new : ConnPast) (peer : PeerPast) (life later : Life)
-      → IsConn id life conn peer → new.rank ≡ conn.rank → Grew conn.transcript new.transcript
-      → WentOn id new life later → MakesRight step life later
-  goes_right step id conn new peer life later is rank grew went owes rising owned =
-      follows_right O id new life later went conn is.conn_is
-      (grown_owned O id conn new rank grew (owned id conn is.conn_is)) owned
-
-  hands_right : (id : ℕ) (conn : ConnPast) (peer : PeerPast) (handed : Handover) (h : List Happening) (past : Past)
-      (life later : Life)
-      → IsConn id life conn peer → HandsOver id life.now conn peer life.past handed h past
-      → AllRightSince Never life.past past → WentOn id (with_transcript conn h) (with_past life past) later
-      → MakesRight (Hand id) life later
-  hands_right id conn peer handed h past life later is over right went owes rising owned =
-      let one = handed_owned id life conn peer handed h past owes over is (owned id conn is.conn_is) in
-      let follows = follows_right O id (with_transcript conn h) (with_past life past) later went conn is.conn_is one
-      owned in
-      record {
-        right = all_then (HasCome later) life.past.peers past.peers later.past.peers
-            (never_right (HasCome later) life.past past right) follows.right;
-        owned = follows.owned;
-      }
-
   -- a tick hands nothing over
   moves_right : (now : ℕ) (life later : Life) → MakesRight (Tick now) (at_moment now life) later
       → MakesRight (Tick now) life later
-  moves_right now life later makes owes rising owned =
-      let rights = makes (λ rank id debt conn peer hand is its candidate. absurd cc) rising owned in
+  moves_right now life later makes owes owned =
+      let rights = makes (λ rank id debt conn peer hand is its candidate. absurd cc) owned in
       record { right = rights.right; owned = rights.owned }
 
   -- the moment of one connection was set, and it went on
-  ticks_right : (now : ℕ) (begun mid later : Life) (count : ℕ) (outputs : List Said) (id : ℕ) (conn : ConnPast)
-      (peer : PeerPast)
-      → TicksEach begun count outputs mid → MakesRight (Tick now) begun mid
-      → slice_get mid.conns count ≡ Some (id, conn)
-      → WentOn id (ticked mid.now peer conn) mid later → MakesRight (Tick now) begun later
-  ticks_right now begun mid later count outputs id conn peer before makes here went owes rising owned =
-      let rights = makes owes rising owned in
-      let numbers = ticks_numbers begun count outputs mid before in
-      let is = conn_there mid.conns (subst IsStrictlyIncreasing (sym numbers) rising) count id conn here in
-      let options = options_of peer.conf in
-      let new = ticked mid.now peer conn in
-      let grew = grew_outside options conn.transcript (Ticked mid.now) refl in
-      let went_right = follows_right O id new mid later went conn is
-      (grown_owned O id conn new refl grew (rights.owned id conn is)) rights.owned in
-      let carries = follows_carries O id new mid later went conn is refl grew in
+  ticks_right : (now : ℕ) (begun mid later : Life) (id : ℕ) → MakesRight (Tick now) begun mid
+      → OnPair (Went (Tick now)) id mid tt later → MakesRight (Tick now) begun later
+  ticks_right now begun mid later id makes t owes owned =
+      let rights = makes owes owned in
+      let went_right = pair_right O (Tick now) id mid later t
+      (λ rank at debt conn peer hand is its candidate. absurd cc) rights.owned in
+      let carries = pair_carries O (Tick now) id mid later t (λ hand. cc) in
       record {
         right = all_then (HasCome later) begun.past.peers mid.past.peers later.past.peers
             (right_weaker (HasCome mid) (HasCome later) (come_on (HasCome later) mid later carries went_right.right)
@@ -774,8 +717,6 @@ module _ (O : Owned) where
   abbrev passage_right : Passage
   passage_right = record {
     tapes = rightly Never;
-    on_claims = λ rank id now. tt;
-    on_returns = λ rank id number. tt;
     on_opens = λ rank. tt;
     on_intake = tt;
     keeps_left = left_right Never;
@@ -783,8 +724,7 @@ module _ (O : Owned) where
     changes = changes_right;
     halts = halts_right;
     connects = connects_right;
-    goes_on = goes_right;
-    hands = hands_right;
+    goes_on = pair_right O;
     moves = moves_right;
     ticks = ticks_right;
   }
@@ -892,9 +832,6 @@ module _ (law : VerdictsAreRight) (own : EndsAreOwn) where
   module _ (begun : Life) (steps : List Step) (step : Step) (lines more : List (List Said)) (life later : Life)
       (comes : Comes begun steps lines life) (one : IsNext step life more later) (safe : IsSafe later.past)
       (sound : IsSoundLife later) where
-    rising : IsStrictlyIncreasing (ids_of life.conns)
-    rising = (comes_sound begun steps lines life comes).conns.rising
-
     abbrev all_steps : List Step
     all_steps = steps ++ step ∷ []
 
@@ -967,9 +904,9 @@ module _ (law : VerdictsAreRight) (own : EndsAreOwn) where
 
     next_right : IsNext step life more later → AllOwned OwnedNow life.conns → Rights OwnedNow life later
     next_right (inl (outputs, is, takes)) owned =
-        takes_make (passage_right OwnedNow) step life outputs later takes owes_now rising owned
+        takes_make (passage_right OwnedNow) step life outputs later takes owes_now owned
     next_right (inr (fault, is, refuses)) owned =
-        refuses_make (passage_right OwnedNow) step life fault later refuses owes_now rising owned
+        refuses_make (passage_right OwnedNow) step life fault later refuses owes_now owned
 
     run_goes : RunRight begun steps lines life → RunRight begun all_steps all_lines later
     run_goes before =

@@ -57,8 +57,9 @@ pub mod ConnectionBreaks
 pub mod DebtHandedOver
 pub mod PeerInWorld
 pub mod ImportCalls
+pub mod PairGoesOn
 pub mod PairInWorld
-pub mod FollowUpInWorld
+pub mod ConnectionEvents
 pub mod ConnectionSteps
 pub mod OctetsComeIn
 pub mod ConnectionFound

@@ -143,6 +143,18 @@ above_noted mark h note within all one =
     subst (AllByRecursion (IsAbove mark)) (sym (drop_push h.kept h.notes note within))
     (all_push (IsAbove mark) (pending_notes h) note all one)
 
+-- a note that no line made pends, too
+pub above_more : (mark : ℕ) (h : History) (note : Note) → AllByRecursion (IsAbove mark) (pending_notes h)
+    → IsAbove mark note → AllByRecursion (IsAbove mark) (pending_notes (noted h note))
+above_more mark h note all one = by h.kept h.notes all
+  where
+    by : (kept : ℕ) (notes : List Note) → AllByRecursion (IsAbove mark) (drop kept notes)
+        → AllByRecursion (IsAbove mark) (drop kept (notes ++ note ∷ []))
+    by zero notes all = all_push (IsAbove mark) notes note all one
+    by (suc zero) [] all = tt
+    by (suc (suc kept)) [] all = tt
+    by (suc kept) (first ∷ notes) all = by kept notes all
+
 -- none pends
 pub above_flushed : (mark : ℕ) (h : History) → AllByRecursion (IsAbove mark) (pending_notes (flushed h))
 above_flushed mark h = subst (AllByRecursion (IsAbove mark)) (sym (drop-length h.notes)) tt

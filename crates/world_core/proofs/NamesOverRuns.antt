@@ -2,7 +2,7 @@
 use Rattle.std.proofs.Common.{◌≡◌, ℕ, List, length, map, refl, sym, ap, ◌∙◌}
 use Rattle.std.specs.List.{AllZip}
 use Rattle.disk_model.specs.declared.Disk.{Ghosts}
-use Rattle.world_core.specs.Past.{Life, Past, PeerPast, with_tape}
+use Rattle.world_core.specs.Past.{Life, Past, PeerPast, with_peer, with_tape}
 use Rattle.world_core.specs.Runs.{Runs}
 use Rattle.world_core.specs.Sound.{names_of}
 use Rattle.world_core.specs.Stands.{PeerStands, StageStands, StoppedStands, WorldStands}
@@ -42,7 +42,9 @@ naming = record {
 pub names_runs : (begun later : Life) (steps : List Step) (lines : List (List Said)) → Runs begun steps lines later
     → named later ≡ named begun
 names_runs begun later steps lines runs =
-    runs_all naming (λ event. tt) (λ manner past. names_left manner past.peers) begun steps lines later runs
+    runs_all naming (λ event. tt) (λ manner past. names_left manner past.peers)
+    (λ past rank id was now here keeps. names_put past (with_peer past rank now) rank was now here keeps.conf refl)
+    begun steps lines later runs
 
 -- ---- what stands for the peers has their names
 

@@ -1,14 +1,13 @@
 -- The outcomes of a step on a connection go to the peer one after another, and are reported.
-use Rattle.std.proofs.Common.{◌≡◌, ℕ, List, [], ◌∷◌, ◌++◌, map, refl, sym, ap, ◌∙◌, subst, append_assoc}
-use Rattle.std.proofs.Common.{append-nil}
+use Rattle.std.proofs.Common.{◌≡◌, ℕ, List, [], ◌∷◌, ◌++◌, map, refl, sym, ap, ◌∙◌, subst, append_assoc, append-nil}
 use Rattle.std.proofs.lemmas.List.{map_push}
 use Rattle.disk_model.specs.declared.Disk.{Ghosts}
 use Rattle.feed_conf.specs.declared.conf.PeerConf.{PeerConf}
 use Rattle.conn_core.specs.declared.outcome.Outcome.{Outcome}
 use Rattle.world_core.specs.Past.{ConnPast, PeerPast, options_of}
-use Rattle.world_core.specs.Exchange.{all_out, one_out, unsettled}
-use Rattle.world_core.specs.Pairs.{FollowedNot, Next, PairStands, SettledAll, SettledNone, SettledNot, SettledOne}
-use Rattle.world_core.specs.Pairs.{SettledSome, Start, StopsHere, settled_said}
+use Rattle.world_core.specs.Exchange.{None_settled, One_settled, StopsAt, all_out, one_out, unsettled}
+use Rattle.world_core.specs.Pairs.{FollowedNot, PairMade, PairRefused, PairStands, SettledAll, SettledNone, SettledNot}
+use Rattle.world_core.specs.Pairs.{SettledOne, SettledSome, settled_said}
 use Rattle.world_core.specs.Output.{Said, said_of}
 use Rattle.world_core.specs.declared.connection.Connection.{Connection}
 use Rattle.world_core.specs.declared.fault.Fault.{Fault}
@@ -35,7 +34,7 @@ module _ {D : Type 0} {g : Ghosts D} where
       → PairStands id conn past connection peer → SettledSome id now conn past outputs [] past connection peer outputs
   settled_start id now conn past connection peer outputs pair = record {
     split = refl;
-    settles = Start;
+    settles = None_settled;
     same_conf = refl;
     outputs_are = sym (append-nil (map said_of outputs));
     stand = pair;
@@ -57,7 +56,7 @@ module _ {D : Type 0} {g : Ghosts D} where
           record {
             split = some.split ∙ (ap (λ l. done ++ l) next ∙ (sym (append_assoc done (o ∷ []) _)
                 ∙ ap (λ (k : ConnPast). (done ++ o ∷ []) ++ unsettled (options_of past.conf) k) (sym one_more)));
-            settles = Next done o mid one.later some.settles one.settles;
+            settles = One_settled done o mid one.later some.settles one.settles;
             same_conf = ap (λ (p : PeerPast). p.conf) one.settles.changed ∙ (conf_settled now o mid ∙ some.same_conf);
             outputs_are = one.outputs_are ∙ (ap (λ l. l ++ settled_said id now mid o ∷ []) some.outputs_are
                 ∙ (append_assoc (map said_of was) _ _ ∙ ap (λ l. map said_of was ++ l)
@@ -96,14 +95,41 @@ module _ {D : Type 0} {g : Ghosts D} where
     settled_refused old_c new_c old new outputs fault some not = record {
       later_conn = not.later_conn;
       later = mid;
-      follows = record {
+      refuses = record {
         done = done;
         left = unsettled (options_of past.conf) (all_out done conn);
         split = some.split;
         settles = some.settles;
         why = subst (λ (c : PeerConf).
-            StopsHere now (unsettled (options_of c) (all_out done conn)) mid fault (all_out done conn) not.later_conn)
+            StopsAt now (unsettled (options_of c) (all_out done conn)) mid fault (all_out done conn) not.later_conn)
             some.same_conf not.why;
       };
       stand = not.stand;
     }
+
+-- ---- what follows a step, as what the step makes
+
+module _ {D : Type 0} {g : Ghosts D} where
+  pub made_by : (T U : List Said → ConnPast → PeerPast → Type 0) (id : ℕ) (before : List Output) (c : Connection)
+      (peer : Peer D g) (outputs : List Output)
+      → ((said : List Said) (later_conn : ConnPast) (later : PeerPast) → T said later_conn later
+      → U said later_conn later)
+      → PairMade T id before c peer outputs → PairMade U id before c peer outputs
+  made_by T U id before c peer outputs by made = record {
+    said = made.said;
+    later_conn = made.later_conn;
+    later = made.later;
+    makes = by made.said made.later_conn made.later made.makes;
+    outputs_are = made.outputs_are;
+    stand = made.stand;
+  }
+
+  pub refused_by : (R S : ConnPast → PeerPast → Type 0) (id : ℕ) (c : Connection) (peer : Peer D g)
+      → ((later_conn : ConnPast) (later : PeerPast) → R later_conn later → S later_conn later)
+      → PairRefused R id c peer → PairRefused S id c peer
+  refused_by R S id c peer by refused = record {
+    later_conn = refused.later_conn;
+    later = refused.later;
+    refuses = by refused.later_conn refused.later refused.refuses;
+    stand = refused.stand;
+  }

@@ -1,6 +1,6 @@
 -- What is reported after the outcomes of a step on a connection; and its output counts as sent.
-use Rattle.std.proofs.Common.{◌≡◌, ℕ, Bool, true, false, Option, List, [], ◌++◌, length, map, refl, sym, ap, ◌∙◌}
-use Rattle.std.proofs.Common.{subst, inl, append-nil}
+use Rattle.std.proofs.Common.{◌≡◌, ℕ, Bool, true, false, Option, List, [], ◌++◌, length, map, refl, sym, ap, ◌∙◌, subst}
+use Rattle.std.proofs.Common.{inl, append-nil}
 use Rattle.std.specs.Prelude.{if◌then◌else◌, is_none, is_some}
 use Rattle.disk_model.specs.declared.Disk.{Ghosts}
 use Rattle.feed_conf.specs.declared.conf.PeerConf.{PeerConf}
@@ -53,7 +53,7 @@ module _ {D : Type 0} {g : Ghosts D} where
     tell_refused fault is = record {
       later_conn = out;
       later = all.later;
-      follows = record {
+      refuses = record {
         done = unsettled (options_of past.conf) conn;
         left = [];
         split = sym (append-nil (unsettled (options_of past.conf) conn));
@@ -97,7 +97,7 @@ module _ {D : Type 0} {g : Ghosts D} where
               ++ (need_said id (need o h) ++ closed_said id (reason o was) (reason o h)));
           later_conn = followed_up o conn;
           later = all.later;
-          follows = record { settles = all.some.settles; outputs_are = refl; changed = refl };
+          makes = record { settles = all.some.settles; outputs_are = refl; changed = refl };
           outputs_are = tells_both before one outputs _ _ all.some.outputs_are (tells_both one two outputs _ _
               (subst (λ (l : List ℕ). Tells one (map (SentLine id) (lines_in l)) two) sending_is
               (subst (λ (n : ℕ). Tells one (map (SentLine n) (lines_in sending)) two) own_id sent_so))

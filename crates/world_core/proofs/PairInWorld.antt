@@ -32,7 +32,7 @@ use Rattle.world_core.proofs.RelatedLists.{zip_weaker}
 abbrev Entry : Type 0
 Entry = ℕ × ConnPast
 
-once : {A : Type 0} (x y : A) → Some x ≡ Some y → x ≡ y
+pub once : {A : Type 0} (x y : A) → Some x ≡ Some y → x ≡ y
 once x y same = cc
 
 number_there : (conns : List Entry) (j : ℕ) (e : Entry) (d : ℕ) → slice_get conns j ≡ Some e
@@ -245,8 +245,7 @@ module _ {D : Type 0} {g : Ghosts D} where
         (later : PeerPast)
         (pair : PairStands id later_conn later c now) (same : WithPeer old new rank now)
         (put_c : new_cs ≡ set cs index c)
-        (keeps : PeerKeeps id peer later) (same_rank : later_conn.rank ≡ conn.rank)
-        (within : peer.tape.history.kept ≤ length peer.tape.history.notes) where
+        (keeps : PeerKeeps id peer later) (same_rank : later_conn.rank ≡ conn.rank) where
       abbrev pub later_life : Life
       later_life = with_conn (with_past life (with_peer life.past rank later)) id later_conn
 
@@ -355,7 +354,7 @@ module _ {D : Type 0} {g : Ghosts D} where
       put_back = record {
         running = running.running;
         stands = stands_with old new life.past rank later now running.stands same pair.stands
-            (sound_with life.past rank id peer later here within keeps running.stands.sound);
+            (sound_with life.past rank id peer later here keeps running.stands.sound);
         conns = subst (λ (entries : List Entry).
             AllZip (ConnectionStands (set life.past.peers rank later)) entries new_cs) (sym conns_are)
             (subst (λ (l : List Connection).

@@ -1,8 +1,7 @@
 -- What happens to one peer among all, at which one connection's numbers change: the rest stays, and whatever a stop
 -- leaves is safe.
-use Rattle.std.proofs.Common.{◌≡◌, ◌↔◌, ℕ, zero, suc, ◌≤◌, Bool, true, false, None, Some, List, [], ◌∷◌, ◌++◌, length}
-use Rattle.std.proofs.Common.{take, refl, sym, ap, ◌∙◌, subst, inl, inr, arith, length-append}
-use Rattle.std.proofs.lemmas.List.{map_push}
+use Rattle.std.proofs.Common.{◌≡◌, ◌↔◌, ℕ, zero, suc, Bool, true, false, None, Some, List, [], ◌∷◌, ◌++◌}
+use Rattle.std.proofs.Common.{take, refl, sym, ap, ◌∙◌, subst, inl, inr, arith, append-nil, append_assoc, length-append}
 use Rattle.std.specs.Prelude.{◌==◌, cond, if◌then◌else◌, slice_get}
 use Rattle.std.proofs.Math.ListN.{set}
 use Rattle.std.specs.List.{AllByRecursion}
@@ -13,24 +12,28 @@ use Rattle.ledger_core.specs.State.{Owing, State, after}
 use Rattle.recovery.specs.Image.{Log}
 use Rattle.recovery.specs.Leaving.{EachLedger, IsPrefix, pending_notes}
 use Rattle.recovery.specs.LeavingLaws.{EachLedger-weaker}
-use Rattle.recovery.specs.Notes.{AreLegal, History, noted}
+use Rattle.recovery.specs.Notes.{AreLegal, History, noted, noted_all}
+use Rattle.conn_core.specs.History.{Event as Happening}
 use Rattle.conn_core.specs.declared.outcome.Outcome.{Outcome}
 use Rattle.peer_queue.specs.DebtPlace.{DebtPlace, Held, IsHeldBy, Later as LaterPlace, Places, Ready, moved, place_at}
 use Rattle.peer_queue.specs.Settled.{key_in}
 use Rattle.peer_queue.specs.declared.settled.Settled.{Settled}
 use Rattle.peer_queue.specs.declared.settled.Settled.TheVariants.{Answered, Dropped, Later, Ready as Back}
-use Rattle.world_core.specs.Past.{Past, PeerPast, TapePast, mark_at, with_peer, with_tape}
+use Rattle.world_core.specs.Past.{ConnPast, Past, PeerPast, TapePast, mark_at, with_peer, with_tape}
 use Rattle.world_core.specs.Safe.{HasAcknowledged, IsAbove, IsSafe, KeepsLines, KeepsNotes}
 use Rattle.world_core.specs.Tapes.{IsReadTape}
-use Rattle.world_core.specs.Events.{AllDo, Claims, Does, Event, Next, Returns, Settles, Start, settled_as, settling}
-use Rattle.world_core.specs.Exchange.{settle_events}
-use Rattle.world_core.specs.Pairs.{AllSettleAt, ClaimsAt, Next as NextSettled, ReturnsAt, SettlesAt}
-use Rattle.world_core.specs.Pairs.{Start as NoneSettled}
+use Rattle.world_core.specs.Events.{settled_as, settling}
+use Rattle.world_core.specs.Exchange.{AllSettleAt, ClaimsAt, FailsToOffer}
+use Rattle.world_core.specs.Exchange.{GivesBackAt, HandsOver}
+use Rattle.world_core.specs.Exchange.{Has_no_room, Is_shut, None_settled, None_there, One_settled, ReturnsAt, SettlesAt}
+use Rattle.world_core.specs.Exchange.{Taken_over}
 use Rattle.world_core.specs.Sound.{HasParted, IsSound}
+use Rattle.world_core.specs.declared.fault.Fault.{Fault}
+use Rattle.world_core.specs.declared.output.Handed.{Handed as Handover}
 use Rattle.world_core.proofs.AcknowledgedLines.{all_at}
 use Rattle.world_core.proofs.EventLists.{take_left}
 use Rattle.world_core.proofs.HeldNumbers.{gone_none, moved_other}
-use Rattle.world_core.proofs.MarksAndNotes.{above_noted, all_set}
+use Rattle.world_core.proofs.MarksAndNotes.{above_more, all_set}
 use Rattle.world_core.proofs.OutcomeSettled.{settled_conf, settled_others}
 use Rattle.world_core.proofs.SoundOverEvents.{names_set}
 
@@ -61,23 +64,25 @@ pub record PeerKeeps (id : ℕ) (was now : PeerPast) : Type 0 where
   pub conf : now.conf ≡ was.conf
   pub parted : now.parted ≡ was.parted
   pub log : now.tape.log ≡ was.tape.log
-  pub within : was.tape.history.kept ≤ length was.tape.history.notes
-      → now.tape.history.kept ≤ length now.tape.history.notes
-  pub prefix : was.tape.history.kept ≤ length was.tape.history.notes → (state : State) → KeepsNotes was state
-      → KeepsNotes now state
-  pub acknowledged : was.tape.history.kept ≤ length was.tape.history.notes → (mark : ℕ) → HasAcknowledged mark was
-      → HasAcknowledged mark now
+  pub more : List Note
+  pub notes : now.tape.history ≡ noted_all was.tape.history more
+  pub prefix : (state : State) → KeepsNotes was state → KeepsNotes now state
+  pub acknowledged : (mark : ℕ) → HasAcknowledged mark was → HasAcknowledged mark now
   pub others : (other number : ℕ) → (other ≡ id → ⊥)
       → IsHeldBy now.places other number ↔ IsHeldBy was.places other number
+
+none_noted : (h : History) → h ≡ noted_all h []
+none_noted h = ap (λ notes. record h { notes = notes }) (sym (append-nil h.notes))
 
 pub keeps_same : (id : ℕ) (was : PeerPast) → PeerKeeps id was was
 keeps_same id was = record {
   conf = refl;
   parted = refl;
   log = refl;
-  within = λ w. w;
-  prefix = λ w state keeps. keeps;
-  acknowledged = λ w mark has. has;
+  more = [];
+  notes = none_noted was.tape.history;
+  prefix = λ state keeps. keeps;
+  acknowledged = λ mark has. has;
   others = λ other number apart. (λ is. is, λ is. is);
 }
 
@@ -86,9 +91,12 @@ keeps_then id was mid now one two = record {
   conf = two.conf ∙ one.conf;
   parted = two.parted ∙ one.parted;
   log = two.log ∙ one.log;
-  within = λ w. two.within (one.within w);
-  prefix = λ w state keeps. two.prefix (one.within w) state (one.prefix w state keeps);
-  acknowledged = λ w mark has. two.acknowledged (one.within w) mark (one.acknowledged w mark has);
+  more = one.more ++ two.more;
+  notes = two.notes ∙ (ap (λ (h : History). noted_all h two.more) one.notes
+      ∙ ap (λ notes. record was.tape.history { notes = notes })
+      (append_assoc was.tape.history.notes one.more two.more));
+  prefix = λ state keeps. two.prefix state (one.prefix state keeps);
+  acknowledged = λ mark has. two.acknowledged mark (one.acknowledged mark has);
   others = λ other number apart. (
     λ is. (one.others other number apart).0 ((two.others other number apart).0 is),
     λ is. (two.others other number apart).1 ((one.others other number apart).1 is),
@@ -156,9 +164,10 @@ settled_keeps s id n was held = record {
   conf = settled_conf s n was;
   parted = same_parted s;
   log = same_log s;
-  within = λ w. still_within s w;
-  prefix = λ w state keeps. still_prefix s state keeps;
-  acknowledged = λ w mark has. still_above s w mark has;
+  more = (more_notes s).0;
+  notes = (more_notes s).1;
+  prefix = λ state keeps. still_prefix s state keeps;
+  acknowledged = λ mark has. still_above s mark has;
   others = λ other number apart.
       others_stay was.places (settled_as s n was).places id n other number apart
       (held_once was.places id other n held apart)
@@ -177,12 +186,12 @@ settled_keeps s id n was held = record {
     same_log (Later moment) = refl
     same_log Back = refl
 
-    still_within : (s : Settled) → was.tape.history.kept ≤ length was.tape.history.notes
-        → (settled_as s n was).tape.history.kept ≤ length (settled_as s n was).tape.history.notes
-    still_within (Answered code) w = omega (arith, w, length-append was.tape.history.notes (Final n code ∷ []))
-    still_within (Dropped cause) w = omega (arith, w, length-append was.tape.history.notes (Drop n cause ∷ []))
-    still_within (Later moment) w = w
-    still_within Back w = w
+    more_notes : (s : Settled) → (more : List Note)
+        × ((settled_as s n was).tape.history ≡ noted_all was.tape.history more)
+    more_notes (Answered code) = (Final n code ∷ [], refl)
+    more_notes (Dropped cause) = (Drop n cause ∷ [], refl)
+    more_notes (Later moment) = ([], none_noted was.tape.history)
+    more_notes Back = ([], none_noted was.tape.history)
 
     still_prefix : (s : Settled) (state : State) → KeepsNotes was state → KeepsNotes (settled_as s n was) state
     still_prefix (Answered code) state keeps = prefix_noted was.tape.history (Final n code) state keeps
@@ -190,13 +199,11 @@ settled_keeps s id n was held = record {
     still_prefix (Later moment) state keeps = keeps
     still_prefix Back state keeps = keeps
 
-    still_above : (s : Settled) → was.tape.history.kept ≤ length was.tape.history.notes → (mark : ℕ)
-        → HasAcknowledged mark was
-        → HasAcknowledged mark (settled_as s n was)
-    still_above (Answered code) w mark has = above_noted mark was.tape.history (Final n code) w has tt
-    still_above (Dropped cause) w mark has = above_noted mark was.tape.history (Drop n cause) w has tt
-    still_above (Later moment) w mark has = has
-    still_above Back w mark has = has
+    still_above : (s : Settled) (mark : ℕ) → HasAcknowledged mark was → HasAcknowledged mark (settled_as s n was)
+    still_above (Answered code) mark has = above_more mark was.tape.history (Final n code) has tt
+    still_above (Dropped cause) mark has = above_more mark was.tape.history (Drop n cause) has tt
+    still_above (Later moment) mark has = has
+    still_above Back mark has = has
 
 pub keeps_settled : (id now : ℕ) (outcome : Outcome) (was later : PeerPast) → SettlesAt id now outcome was later
     → PeerKeeps id was later
@@ -214,9 +221,10 @@ keeps_read id was tape places reads others =
       conf = refl;
       parted = refl;
       log = ap (λ (t : TapePast). t.log) reads.all;
-      within = λ w. subst (λ (h : History). h.kept ≤ length h.notes) (sym same) w;
-      prefix = λ w state keeps. subst (λ (h : History). IsPrefix h state) (sym same) keeps;
-      acknowledged = λ w mark has. subst (λ (h : History). AllByRecursion (IsAbove mark) (pending_notes h)) (sym same)
+      more = [];
+      notes = same ∙ none_noted was.tape.history;
+      prefix = λ state keeps. subst (λ (h : History). IsPrefix h state) (sym same) keeps;
+      acknowledged = λ mark has. subst (λ (h : History). AllByRecursion (IsAbove mark) (pending_notes h)) (sym same)
           has;
       others = others;
     }
@@ -244,12 +252,12 @@ keeps_returns id number was later is =
 -- ---- all peers
 
 module _ (past : Past) (rank id : ℕ) (was now : PeerPast) (here : slice_get past.peers rank ≡ Some was)
-    (within : was.tape.history.kept ≤ length was.tape.history.notes) (keeps : PeerKeeps id was now) where
+    (keeps : PeerKeeps id was now) where
   pub safe_with : IsSafe past → IsSafe (with_peer past rank now)
   safe_with safe = record {
     peers = all_set (λ (peer : PeerPast). EachLedger (KeepsNotes peer) peer.tape.log) past.peers rank now safe.peers
         (subst (λ (log : Log). EachLedger (KeepsNotes now) log) (sym keeps.log)
-        (EachLedger-weaker (KeepsNotes was) (KeepsNotes now) (keeps.prefix within) was.tape.log
+        (EachLedger-weaker (KeepsNotes was) (KeepsNotes now) keeps.prefix was.tape.log
         (all_at (λ (peer : PeerPast). EachLedger (KeepsNotes peer) peer.tape.log) past.peers rank was safe.peers
         here)));
     intake = EachLedger-weaker (KeepsLines past.intake.history past.peers)
@@ -257,7 +265,7 @@ module _ (past : Past) (rank id : ℕ) (was now : PeerPast) (here : slice_get pa
         (λ state lines. record {
           prefix = lines.prefix;
           lines = all_set (HasAcknowledged state.mark) past.peers rank now lines.lines
-              (keeps.acknowledged within state.mark
+              (keeps.acknowledged state.mark
               (all_at (HasAcknowledged state.mark) past.peers rank was lines.lines here));
         }) past.intake.log safe.intake;
   }
@@ -268,11 +276,11 @@ module _ (past : Past) (rank id : ℕ) (was now : PeerPast) (here : slice_get pa
     fits = sound.fits;
     marked = sound.marked;
     acknowledged = all_set (HasAcknowledged (mark_at past.intake)) past.peers rank now sound.acknowledged
-        (keeps.acknowledged within (mark_at past.intake)
+        (keeps.acknowledged (mark_at past.intake)
         (all_at (HasAcknowledged (mark_at past.intake)) past.peers rank was sound.acknowledged here));
     kept = sound.kept;
     parted = λ number is. all_set (HasParted number) past.peers rank now (sound.parted number is)
-        (λ e. keeps.acknowledged within number
+        (λ e. keeps.acknowledged number
         (all_at (HasParted number) past.peers rank was (sound.parted number is) here (sym keeps.parted ∙ e)));
   }
 
@@ -291,85 +299,34 @@ pub with_same : (past : Past) (rank : ℕ) (was : PeerPast) → slice_get past.p
     → with_peer past rank was ≡ past
 with_same past rank was here = ap (λ peers. record past { peers = peers }) (set_same past.peers rank was here)
 
--- ---- events at one peer
+-- ---- a connection and its peer
 
--- these events lead from one peer to the other, and other connections keep what they hold
-pub record Leads (past : Past) (rank id : ℕ) (was now : PeerPast) (events : List Event) : Type 0 where
-  pub does : AllDo past events (with_peer past rank now)
-  pub keeps : PeerKeeps id was now
+-- what a step makes of them keeps what other connections have, and where they stand
+abbrev pub KeepsPair : (id : ℕ) → (conn : ConnPast) → (peer : PeerPast) → (later_conn : ConnPast) → PeerPast → Type 0
+KeepsPair id conn peer later_conn later = PeerKeeps id peer later × (later_conn.rank ≡ conn.rank)
 
-module _ (past : Past) (rank id : ℕ) (was : PeerPast) (here : slice_get past.peers rank ≡ Some was)
-    (within : was.tape.history.kept ≤ length was.tape.history.notes) (safe : IsSafe past) where
-  pub leads_nowhere : Leads past rank id was was []
-  leads_nowhere = record {
-    does = subst (AllDo past []) (sym (with_same past rank was here)) Start;
-    keeps = keeps_same id was;
-  }
+pub keeps_all : (id now : ℕ) (was : PeerPast) (outcomes : List Outcome) (later : PeerPast)
+    → AllSettleAt id now was outcomes later → PeerKeeps id was later
+keeps_all id now was _ _ None_settled = keeps_same id was
+keeps_all id now was _ _ (One_settled outcomes outcome mid later before one) =
+    keeps_then id was mid later (keeps_all id now was outcomes mid before) (keeps_settled id now outcome mid later one)
 
-  -- one more event, after which the peer is this
-  pub leads_on : (events : List Event) (event : Event) (mid now : PeerPast) → Leads past rank id was mid events
-      → PeerKeeps id mid now
-      → Does event (with_peer past rank mid) (with_peer past rank now)
-      → Leads past rank id was now (events ++ event ∷ [])
-  leads_on events event mid now leads keeps does =
-      let all = keeps_then id was mid now leads.keeps keeps in
-      record {
-        does = Next events event (with_peer past rank mid) (with_peer past rank now) leads.does does
-            (safe_with past rank id was now here within all safe);
-        keeps = all;
-      }
+pub keeps_given : (id now : ℕ) (debt : Owing) (was later : PeerPast) → GivesBackAt id now debt was later
+    → PeerKeeps id was later
+keeps_given id now debt was later is =
+    keeps_then id was is.mid later (keeps_claims id now debt was is.mid is.claims)
+    (keeps_returns id debt.0 is.mid later is.returns)
 
-  mid_here : (mid : PeerPast) → slice_get (with_peer past rank mid).peers rank ≡ Some mid
-  mid_here mid = get_set past.peers rank was mid here
+pub keeps_over : (id now : ℕ) (conn : ConnPast) (peer : PeerPast) (handed : Handover) (h : List Happening)
+    (later : PeerPast) → HandsOver id now conn peer handed h later → PeerKeeps id peer later
+keeps_over id now conn peer _ _ _ (None_there tape works none reads) = keeps_with_tape id peer tape reads
+keeps_over id now conn peer _ _ _ (Taken_over debt later ready claims) = keeps_claims id now debt peer later claims
+keeps_over id now conn peer _ _ _ (Has_no_room debt later ready gives) = keeps_given id now debt peer later gives
+keeps_over id now conn peer _ _ _ (Is_shut debt later ready gives) = keeps_given id now debt peer later gives
 
-  pub leads_settle : (now : ℕ) (events : List Event) (mid later : PeerPast) (outcome : Outcome)
-      → Leads past rank id was mid events
-      → SettlesAt id now outcome mid later → Leads past rank id was later (events ++ Settles rank id now outcome ∷ [])
-  leads_settle now events mid later outcome leads is =
-      leads_on events (Settles rank id now outcome) mid later leads (keeps_settled id now outcome mid later is)
-      (record {
-        peer = mid;
-        here = mid_here mid;
-        works = is.works;
-        held = is.held;
-        room = is.room;
-        changed = sym (with_twice past rank mid later)
-            ∙ ap (λ (p : PeerPast). with_peer (with_peer past rank mid) rank p) is.changed;
-      })
-
-  pub leads_claim : (now : ℕ) (events : List Event) (mid later : PeerPast) (debt : Owing)
-      → Leads past rank id was mid events
-      → ClaimsAt id now debt mid later → Leads past rank id was later (events ++ Claims rank id now ∷ [])
-  leads_claim now events mid later debt leads is =
-      leads_on events (Claims rank id now) mid later leads (keeps_claims id now debt mid later is) (record {
-        peer = mid;
-        debt = debt;
-        tape = is.tape;
-        here = mid_here mid;
-        works = is.works;
-        candidate = is.candidate;
-        reads = is.reads;
-        changed = sym (with_twice past rank mid later)
-            ∙ ap (λ (p : PeerPast). with_peer (with_peer past rank mid) rank p) is.changed;
-      })
-
-  pub leads_return : (number : ℕ) (events : List Event) (mid later : PeerPast) → Leads past rank id was mid events
-      → ReturnsAt id number mid later → Leads past rank id was later (events ++ Returns rank id number ∷ [])
-  leads_return number events mid later leads is =
-      leads_on events (Returns rank id number) mid later leads (keeps_returns id number mid later is) (record {
-        peer = mid;
-        here = mid_here mid;
-        works = is.works;
-        held = is.held;
-        changed = sym (with_twice past rank mid later)
-            ∙ ap (λ (p : PeerPast). with_peer (with_peer past rank mid) rank p) is.changed;
-      })
-
-  -- outcomes one after another, after other events
-  pub leads_settled : (now : ℕ) (outcomes : List Outcome) (later : PeerPast) → AllSettleAt id now was outcomes later
-      → Leads past rank id was later (settle_events rank id now outcomes)
-  leads_settled now _ _ NoneSettled = leads_nowhere
-  leads_settled now _ _ (NextSettled outcomes outcome mid later prefix one) =
-      subst (Leads past rank id was later) (sym (map_push (λ (o : Outcome). Settles rank id now o) outcomes outcome))
-      (leads_settle now (settle_events rank id now outcomes) mid later outcome (leads_settled now outcomes mid prefix)
-      one)
+pub keeps_offer : (id now : ℕ) (conn : ConnPast) (peer : PeerPast) (fault : Fault) (later : PeerPast)
+    → FailsToOffer id now conn peer fault later → PeerKeeps id peer later
+keeps_offer id now conn peer fault later (inl (tape, refused, changed)) =
+    subst (PeerKeeps id peer) (sym changed) (keeps_with_tape id peer tape refused.1)
+keeps_offer id now conn peer fault later (inr (memory, ready, (debt, gives))) =
+    keeps_given id now debt peer later gives

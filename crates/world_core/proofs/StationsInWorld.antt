@@ -4,8 +4,8 @@ use Rattle.std.specs.Prelude.{option_map}
 use Rattle.std.specs.declared.alloc.Global.{Global}
 use Rattle.disk_model.specs.declared.Disk.{Ghosts}
 use Rattle.world_core.specs.Past.{Life}
-use Rattle.world_core.specs.Exchange.{RefusesTick, TakesTick, at_moment}
-use Rattle.world_core.specs.Joined.{AreRunning, MadeOn, RefusedOn, TicksNot, TicksSome}
+use Rattle.world_core.specs.Exchange.{RefusesTick, TakesTick, TicksNot, TicksSome, at_moment}
+use Rattle.world_core.specs.Joined.{AreRunning, MadeOn, RefusedOn}
 use Rattle.world_core.specs.Runs.{OnWorld, RefusesWorld}
 use Rattle.world_core.specs.Sound.{HasNumber}
 use Rattle.world_core.specs.Stands.{StageStands, WorldStands, armed_as}
@@ -123,18 +123,4 @@ unticked_world now life fault new running refused =
     by : RefusesWorld TicksNot (at_moment now life) fault refused.later
         → RefusesWorld (RefusesTick now) life fault refused.later
     by (inl stopped) = let never : true ≡ false = sym running ∙ stopped.1 in cc
-    by (inr not) = inr (
-      not.0,
-      record {
-        count = not.1.count;
-        outputs = not.1.outputs;
-        mid = not.1.mid;
-        id = not.1.fails.id;
-        conn = not.1.fails.conn;
-        peer = not.1.fails.peer;
-        prefix = not.1.prefix;
-        next = not.1.fails.next;
-        here = not.1.fails.here;
-        follows = not.1.fails.follows;
-      },
-    )
+    by (inr not) = inr (not.0, not.1)

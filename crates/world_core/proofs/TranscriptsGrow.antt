@@ -1,6 +1,6 @@
 -- How transcripts grow: what came out of one stays, and a debt is accepted only if it is offered.
-use Rattle.std.proofs.Common.{◌≡◌, ◌⊎◌, ℕ, zero, suc, Bool, true, false, None, Some, List, []}
-use Rattle.std.proofs.Common.{◌∷◌, ◌++◌, length, refl, sym, ap, ◌∙◌, subst, inl, inr, append_assoc}
+use Rattle.std.proofs.Common.{◌≡◌, ◌⊎◌, ℕ, zero, suc, Bool, true, false, None, Some, List, [], ◌∷◌, ◌++◌, length, refl}
+use Rattle.std.proofs.Common.{sym, ap, ◌∙◌, subst, inl, inr, append_assoc}
 use Rattle.std.specs.Prelude.{◌+◌, Contains, if◌then◌else◌, is_some, nat_lt}
 use Rattle.std.specs.List.{slice_get}
 use Rattle.ledger_core.specs.State.{Owing}
@@ -14,7 +14,7 @@ use Rattle.conn_core.specs.Receipt.{Reads_on, Receives, ReceivesSome, Stops}
 use Rattle.conn_core.specs.StoryLaws.{ends-offered}
 use Rattle.conn_core.specs.declared.options.Options.{Options}
 use Rattle.conn_core.specs.declared.outcome.Outcome.{Outcome}
-use Rattle.world_core.specs.Past.{ConnPast, Past}
+use Rattle.world_core.specs.Past.{ConnPast, PeerPast}
 use Rattle.world_core.specs.Exchange.{StopsAt, all_out, followed_up, one_out, out_to, settled_out, unsettled}
 use Rattle.world_core.specs.declared.fault.Fault.{Fault}
 use Rattle.world_core.proofs.HeldNumbers.{contains_left, out_rank}
@@ -70,14 +70,14 @@ grew_out (o ∷ os) conn =
     (grew_out os (one_out conn))
 
 -- some outcomes went to the peer, and then no more
-pub grew_stopped : (rank id now : ℕ) (done left : List Outcome) (past : Past) (fault : Fault) (conn later : ConnPast)
-    → StopsAt rank id now left past fault (all_out done conn) later
+pub grew_stopped : (now : ℕ) (done left : List Outcome) (peer : PeerPast) (fault : Fault) (conn later : ConnPast)
+    → StopsAt now left peer fault (all_out done conn) later
     → (later.rank ≡ conn.rank) × Grew conn.transcript later.transcript
-grew_stopped rank id now done left past fault conn later (inl memory) = (
+grew_stopped now done left peer fault conn later (inl memory) = (
   ap (λ (c : ConnPast). c.rank) memory.1 ∙ out_rank done conn,
   subst (λ (c : ConnPast). Grew conn.transcript c.transcript) (sym memory.1) (grew_out done conn),
 )
-grew_stopped rank id now done left past fault conn later (inr end) = (
+grew_stopped now done left peer fault conn later (inr end) = (
   ap (λ (c : ConnPast). c.rank) end.4 ∙ out_rank done conn,
   subst (λ (c : ConnPast). Grew conn.transcript c.transcript) (sym end.4)
       (grew_then conn.transcript (all_out done conn).transcript _ (grew_out done conn)

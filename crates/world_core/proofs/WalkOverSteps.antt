@@ -1,92 +1,34 @@
 -- One walk over all steps, built on the walk over those on tapes: what each step makes of a world, taken or refused, is
 -- some events on its tapes, or a connection that is made or goes on.
-use Rattle.std.proofs.Common.{◌≡◌, ℕ, zero, suc, ◌+◌, Option, Some, List, [], ◌∷◌, ◌++◌}
-use Rattle.std.proofs.Common.{refl, sym, ap, subst, inl, inr, append-nil}
+use Rattle.std.proofs.Common.{◌≡◌, ℕ, zero, suc, ◌+◌, Option, Some, List, [], ◌∷◌, ◌++◌, refl, sym, ap, subst, inl, inr}
 use Rattle.std.specs.List.{AllByRecursion, slice_get}
-use Rattle.article_store.specs.declared.store.Found.{Found}
-use Rattle.conn_core.specs.History.{Broke, Event as Happening, Handed, after}
-use Rattle.conn_core.specs.declared.outcome.Outcome.{Outcome}
 use Rattle.disk_model.specs.declared.choice.Choice.{Choice}
-use Rattle.world_core.specs.Past.{ConnPast, Life, Past, PeerPast, TapePast, options_of, with_conn, with_past}
-use Rattle.world_core.specs.Events.{AllDo, Claims, Event, Opens, OpensIntake, Returns}
-use Rattle.world_core.specs.Events.AllDo.{Start as NoEvent}
-use Rattle.world_core.specs.Runs.{Runs}
+use Rattle.world_core.specs.Past.{Life, Past, PeerPast, with_past, with_peer}
+use Rattle.world_core.specs.Events.{AllDo, Event, Opens, OpensIntake}
+use Rattle.world_core.specs.Runs.{Runs, Does, Refuses as RefusesAny, RefusesStep, RefusesTapes, RefusesWorld, Takes}
 use Rattle.world_core.specs.Runs.Runs.{Start as NoStep, Next as OneStep}
 use Rattle.world_core.specs.Steps.{RefusesFlushing, RefusesImport, RefusesLine, RefusesPart, RefusesRotation}
 use Rattle.world_core.specs.Steps.{RefusesSeal, RefusesShed}
-use Rattle.world_core.specs.Exchange.{FailsToBreak, FailsToHand, FailsToRead, FailsToSupply, Follows, FollowsNot}
-use Rattle.world_core.specs.Exchange.{HandsOver, IsConn, RefusesConnect, RefusesTick, TicksEach, at_moment, broken_off}
-use Rattle.world_core.specs.Exchange.{followed_up, fresh_conn, settle_events, ticked, unsettled, with_transcript}
-use Rattle.world_core.specs.Exchange.HandsOver.{None_there, Taken_over, Has_no_room, Is_shut}
+use Rattle.world_core.specs.Exchange.{FailsToBreak, FailsToHand, FailsToRead, FailsToSupply, FailsToTick, OnPair}
+use Rattle.world_core.specs.Exchange.{PairStep, RefusesConnect, RefusesOn, RefusesTick, TakesArticle, TakesBreak}
+use Rattle.world_core.specs.Exchange.{TakesBytes, TakesHand, TakesMoment, TicksEach, at_moment, fresh_conn}
 use Rattle.world_core.specs.Exchange.TicksEach.{Start as NoneTicked, Next as OneTicked}
 use Rattle.world_core.specs.Halts.{AtRest, Manner, RefusesRestart, RefusesStop, TakesStop, left}
 use Rattle.world_core.specs.Laws.{Comes}
 use Rattle.world_core.specs.Laws.Comes.{No_step, Step_taken, Step_refused}
-use Rattle.world_core.specs.Runs.{Does, Refuses as RefusesAny, RefusesConn, RefusesStep, RefusesTapes, RefusesWorld}
-use Rattle.world_core.specs.Runs.{Takes}
 use Rattle.world_core.specs.Output.{Said}
 use Rattle.world_core.specs.declared.fault.Fault.{Fault}
 use Rattle.world_core.specs.declared.step.Step.{Step}
 use Rattle.world_core.specs.declared.step.Step.TheVariants.{Line, Flush, Begin, Part, Seal, Connect, Hand, Bytes}
 use Rattle.world_core.specs.declared.step.Step.TheVariants.{Article, Break, Tick, Shed, Import, Rotate, Stop, Restart}
-use Rattle.world_core.specs.declared.output.Handed.{Handed as Handover}
-use Rattle.world_core.proofs.TranscriptsGrow.{Grew, grew_broken, grew_by, grew_outside, grew_received, grew_same, grew_sent}
-use Rattle.world_core.proofs.TranscriptsGrow.{grew_stopped}
-use Rattle.world_core.proofs.HeldNumbers.{out_rank}
-use Rattle.world_core.proofs.WalkOverTapes.{Keeper, events_keep, fails_keep, flush_keeps, flush_refused, import_keeps}
-use Rattle.world_core.proofs.WalkOverTapes.{import_refused, line_keeps, line_refused, opens_keep, part_keeps, part_refused}
-use Rattle.world_core.proofs.WalkOverTapes.{restart_keeps, rotate_keeps, rotate_refused, seal_keeps, seal_refused, shed_keeps}
-use Rattle.world_core.proofs.WalkOverTapes.{shed_refused, strikes_keep, unreported_keeps}
-
--- ---- what follows a step on a connection
-
--- The connection was this. Some of its outcomes, from the first on, have gone to its peer, and it is another now, with
--- a transcript in which no further debt was accepted.
-pub record WentOn (id : ℕ) (conn : ConnPast) (life later : Life) : Type 0 where
-  pub peer : PeerPast
-  pub here : slice_get life.past.peers conn.rank ≡ Some peer
-  pub done : List Outcome
-  pub left : List Outcome
-  pub split : unsettled (options_of peer.conf) conn ≡ done ++ left
-  pub past : Past
-  pub settles : AllDo life.past (settle_events conn.rank id life.now done) past
-  pub next : ConnPast
-  pub grew : (next.rank ≡ conn.rank) × Grew conn.transcript next.transcript
-  pub changed : later ≡ with_conn (with_past life past) id next
-
--- what follows has come about
-followed : (id : ℕ) (was : List Happening) (conn : ConnPast) (life later : Life) (outputs : List Said)
-    → Follows id was conn life outputs later → WentOn id conn life later
-followed id was conn life later outputs f =
-    let o = options_of f.peer.conf in
-    record {
-      peer = f.peer;
-      here = f.here;
-      done = unsettled o conn;
-      left = [];
-      split = sym (append-nil (unsettled o conn));
-      past = f.past;
-      settles = f.settles;
-      next = followed_up o conn;
-      grew = (out_rank (unsettled o conn) conn, grew_sent o conn);
-      changed = f.changed;
-    }
-
--- or it was refused
-not_followed : (id : ℕ) (conn : ConnPast) (life : Life) (fault : Fault) (later : Life)
-    → FollowsNot id conn life fault later → WentOn id conn life later
-not_followed id conn life fault later f = record {
-  peer = f.peer;
-  here = f.here;
-  done = f.done;
-  left = f.left;
-  split = f.split;
-  past = f.past;
-  settles = f.settles;
-  next = f.later_conn;
-  grew = grew_stopped conn.rank id life.now f.done f.left f.past fault conn f.later_conn f.why;
-  changed = f.changed;
-}
+use Rattle.world_core.proofs.PairGoesOn.{Goes, Went, keeps_pair, went_article, went_break, went_bytes, went_hand}
+use Rattle.world_core.proofs.PairGoesOn.{went_moment, went_on, went_unbroken, went_unhanded, went_unread}
+use Rattle.world_core.proofs.PairGoesOn.{went_unsupplied, went_unticked}
+use Rattle.world_core.proofs.PeerInWorld.{PeerKeeps}
+use Rattle.world_core.proofs.WalkOverTapes.{Keeper, events_keep, flush_keeps, flush_refused, import_keeps}
+use Rattle.world_core.proofs.WalkOverTapes.{import_refused, line_keeps, line_refused, opens_keep, part_keeps}
+use Rattle.world_core.proofs.WalkOverTapes.{part_refused, restart_keeps, rotate_keeps, rotate_refused, seal_keeps}
+use Rattle.world_core.proofs.WalkOverTapes.{seal_refused, shed_keeps, shed_refused, strikes_keep, unreported_keeps}
 
 -- ---- what steps make
 
@@ -95,8 +37,6 @@ not_followed id conn life fault later f = record {
 -- has gone on, because something came in, a debt was handed to it, or its moment was set.
 pub record Passage : Type 1 where
   pub tapes : Keeper
-  pub on_claims : (rank id now : ℕ) → tapes.ON (Claims rank id now)
-  pub on_returns : (rank id number : ℕ) → tapes.ON (Returns rank id number)
   pub on_opens : (rank : ℕ) → tapes.ON (Opens rank)
   pub on_intake : tapes.ON OpensIntake
   pub keeps_left : (manner : Manner) (past : Past) → tapes.KEEPS past (left manner past)
@@ -107,25 +47,16 @@ pub record Passage : Type 1 where
       → MAKES step life later
   pub connects : (step : Step) (life later : Life) (number rank : ℕ) → later.past ≡ life.past
       → later.conns ≡ life.conns ++ (number, fresh_conn rank) ∷ [] → MAKES step life later
-  pub goes_on : (step : Step) (id : ℕ) (conn new : ConnPast) (peer : PeerPast) (life later : Life)
-      → IsConn id life conn peer → new.rank ≡ conn.rank → Grew conn.transcript new.transcript
-      → WentOn id new life later → MAKES step life later
-  pub hands : (id : ℕ) (conn : ConnPast) (peer : PeerPast) (handed : Handover) (h : List Happening) (past : Past)
-      (life later : Life)
-      → IsConn id life conn peer → HandsOver id life.now conn peer life.past handed h past
-      → tapes.KEEPS life.past past → WentOn id (with_transcript conn h) (with_past life past) later
-      → MAKES (Hand id) life later
+  pub goes_on : (step : Step) (id : ℕ) (life later : Life) → OnPair (Went step) id life tt later
+      → MAKES step life later
   pub moves : (now : ℕ) (life later : Life) → MAKES (Tick now) (at_moment now life) later
       → MAKES (Tick now) life later
-  pub ticks : (now : ℕ) (begun mid later : Life) (count : ℕ) (outputs : List Said) (id : ℕ) (conn : ConnPast)
-      (peer : PeerPast)
-      → TicksEach begun count outputs mid → MAKES (Tick now) begun mid
-      → slice_get mid.conns count ≡ Some (id, conn)
-      → WentOn id (ticked mid.now peer conn) mid later → MAKES (Tick now) begun later
+  pub ticks : (now : ℕ) (begun mid later : Life) (id : ℕ) → MAKES (Tick now) begun mid
+      → OnPair (Went (Tick now)) id mid tt later → MAKES (Tick now) begun later
 
 module _ (passage : Passage) where
-  open passage use {tapes, on_claims, on_returns, on_opens, on_intake, keeps_left, MAKES}
-  open passage use {changes, halts, connects, goes_on, hands, moves, ticks}
+  open passage use {tapes, on_opens, on_intake, keeps_left, MAKES}
+  open passage use {changes, halts, connects, goes_on, moves, ticks}
 
   on_past : (step : Step) (life later : Life) (past : Past) → tapes.KEEPS life.past past
       → later ≡ with_past life past → MAKES step life later
@@ -142,33 +73,18 @@ module _ (passage : Passage) where
   same_life step life later same =
       same_past step life later (ap (λ (l : Life). l.past) same) (ap (λ (l : Life). l.conns) same)
 
-  handing_keeps : (id now : ℕ) (conn : ConnPast) (peer : PeerPast) (past : Past) (handed : Handover)
-      (h : List Happening) (later : Past)
-      → HandsOver id now conn peer past handed h later → slice_get past.peers conn.rank ≡ Some peer
-      → tapes.KEEPS past later
-  handing_keeps id now conn peer past _ _ _ (None_there tape works none reads) here =
-      tapes.at_same past _ conn.rank peer tape here refl (ap (λ (t : TapePast). t.history) reads.all)
-  handing_keeps id now conn peer past _ _ _ (Taken_over debt later is ready does) here =
-      events_keep tapes past later _ does (on_claims conn.rank id now, tt)
-  handing_keeps id now conn peer past _ _ _ (Has_no_room debt later is ready does) here =
-      events_keep tapes past later _ does (on_claims conn.rank id now, (on_returns conn.rank id debt.0, tt))
-  handing_keeps id now conn peer past _ _ _ (Is_shut debt later is ready does) here =
-      events_keep tapes past later _ does (on_claims conn.rank id now, (on_returns conn.rank id debt.0, tt))
-
-  hand_makes : (id : ℕ) (life : Life) (conn : ConnPast) (peer : PeerPast) (handed : Handover) (h : List Happening)
-      (past : Past) (later : Life)
-      → IsConn id life conn peer → HandsOver id life.now conn peer life.past handed h past
-      → WentOn id (with_transcript conn h) (with_past life past) later → MAKES (Hand id) life later
-  hand_makes id life conn peer handed h past later is over went =
-      hands id conn peer handed h past life later is over
-      (handing_keeps id life.now conn peer life.past handed h past over is.peer_is) went
+  -- a step on a connection, taken or refused
+  pair_makes : {A : Type 0} (T : PairStep A) (step : Step) (id : ℕ) → Goes step id T
+      → (life : Life) (reports : A) (later : Life) → OnPair T id life reports later → MAKES step life later
+  pair_makes T step id goes life reports later t =
+      goes_on step id life later (went_on T step id goes life reports later t)
 
   ticks_make : (now : ℕ) (begun : Life) (count : ℕ) (outputs : List Said) (later : Life)
       → TicksEach begun count outputs later → MAKES (Tick now) begun later
   ticks_make now begun _ _ _ NoneTicked = same_life (Tick now) begun begun refl
-  ticks_make now begun _ _ _ (OneTicked count outputs more mid later id conn peer before here at follows) =
-      ticks now begun mid later count outputs id conn peer before (ticks_make now begun count outputs mid before) here
-      (followed id conn.transcript _ mid later more follows)
+  ticks_make now begun _ _ _ (OneTicked count outputs more mid later before (id, at, t)) =
+      ticks now begun mid later id (ticks_make now begun count outputs mid before)
+      (went_on TakesMoment (Tick now) id (went_moment (Tick now) id) mid more later t)
 
   -- ---- a step that is taken
 
@@ -198,21 +114,15 @@ module _ (passage : Passage) where
       connects _ life later (life.connected + 1) t.rank (ap (λ (l : Life). l.past) t.changed)
       (ap (λ (l : Life). l.conns) t.changed)
   step_makes (Hand id) life outputs later (runs, t) =
-      hand_makes id life t.conn t.peer t.handed t.transcript t.past later t.is t.hands
-      (followed id t.conn.transcript _ (with_past life t.past) later t.behind t.follows)
+      pair_makes TakesHand (Hand id) id (went_hand id) life outputs later t
   step_makes (Bytes id octets) life outputs later (runs, t) =
-      goes_on _ id t.conn (record t.conn { unread = t.left; transcript = t.transcript }) t.peer life later
-      t.is refl (grew_received (options_of t.peer.conf) _ t.left t.conn.transcript t.transcript t.receives)
-      (followed id t.conn.transcript _ life later outputs t.follows)
+      pair_makes (TakesBytes octets.items) (Bytes id octets) id (went_bytes octets.items (Bytes id octets) id) life
+      outputs later t
   step_makes (Article id found) life outputs later (runs, t) =
-      let o = options_of t.peer.conf in
-      goes_on _ id t.conn (with_transcript t.conn (after o t.conn.transcript (Handed t.number t.handing))) t.peer life
-      later t.is refl (grew_by o t.conn.transcript (Handed t.number t.handing) refl)
-      (followed id t.conn.transcript _ life later outputs t.follows)
+      pair_makes (TakesArticle found) (Article id found) id (went_article found (Article id found) id) life outputs
+      later t
   step_makes (Break id) life outputs later (runs, t) =
-      let o = options_of t.peer.conf in
-      goes_on _ id t.conn (broken_off t.peer t.conn) t.peer life later t.is refl
-      (grew_outside o t.conn.transcript Broke refl) (followed id t.conn.transcript _ life later outputs t.follows)
+      pair_makes TakesBreak (Break id) id (went_break (Break id) id) life outputs later t
   step_makes (Tick now) life outputs later (runs, takes) =
       moves now life later (ticks_make now (at_moment now life) _ outputs later takes)
   step_makes (Shed name) life outputs later (runs, (past, takes, changed)) =
@@ -243,69 +153,11 @@ module _ (passage : Passage) where
   tapes_refused step R keeps life fault later (inr (runs, (past, refuses, changed))) =
       on_past step life later past (keeps life.past past fault refuses) changed
 
-  hand_refused : (id : ℕ) (life : Life) (conn : ConnPast) (peer : PeerPast) (fault : Fault) (later : Life)
-      → IsConn id life conn peer → FailsToHand id life conn peer fault later → MAKES (Hand id) life later
-  hand_refused id life conn peer fault later is (inl memory) = same_life (Hand id) life later memory.1
-  hand_refused id life conn peer fault later is (inr (inl (past, fails, changed))) =
-      on_past (Hand id) life later past
-      (fails_keep tapes life.past past (Claims conn.rank id life.now ∷ []) fault (on_claims conn.rank id life.now, tt)
-      fails) changed
-  hand_refused id life conn peer fault later is (inr (inr (inl (memory, ready, (debt, past, least, does, changed))))) =
-      on_past (Hand id) life later past (events_keep tapes life.past past _ does
-      (on_claims conn.rank id life.now, (on_returns conn.rank id debt.0, tt))) changed
-  hand_refused id life conn peer fault later is (inr (inr (inr (handed, h, past, over, follows)))) =
-      hand_makes id life conn peer handed h past later is over
-      (not_followed id _ (with_past life past) fault later follows)
-
-  bytes_refused : (step : Step) (id : ℕ) (octets : List ℕ) (life : Life) (conn : ConnPast) (peer : PeerPast)
-      (fault : Fault) (later : Life)
-      → IsConn id life conn peer → FailsToRead id octets life conn peer fault later → MAKES step life later
-  bytes_refused step id octets life conn peer fault later is (inl (memory, (mid, some, changed))) =
-      let o = options_of peer.conf in
-      goes_on step id conn conn peer life later is refl (grew_same conn.transcript) (record {
-        peer = peer;
-        here = is.peer_is;
-        done = [];
-        left = unsettled o conn;
-        split = refl;
-        past = life.past;
-        settles = NoEvent;
-        next = record conn { unread = []; transcript = after o mid Broke };
-        grew = (refl, grew_broken o (conn.unread ++ octets) conn.transcript mid some);
-        changed = changed;
-      })
-  bytes_refused step id octets life conn peer fault later is (inr (h, rest, came, follows)) =
-      goes_on step id conn (record conn { unread = rest; transcript = h }) peer life later is refl
-      (grew_received (options_of peer.conf) _ rest conn.transcript h came)
-      (not_followed id _ life fault later follows)
-
-  article_refused : (step : Step) (id : ℕ) (found : Found) (life : Life) (conn : ConnPast) (peer : PeerPast)
-      (fault : Fault) (later : Life)
-      → IsConn id life conn peer → FailsToSupply id found life conn peer fault later → MAKES step life later
-  article_refused step id found life conn peer fault later is (inl none) = same_life step life later none.2
-  article_refused step id found life conn peer fault later is (inr (number, wanted, inl memory)) =
-      same_life step life later memory.1
-  article_refused step id found life conn peer fault later is (inr (number, wanted, inr (handing, given, follows))) =
-      let o = options_of peer.conf in
-      goes_on step id conn (with_transcript conn (after o conn.transcript (Handed number handing))) peer life later is
-      refl (grew_by o conn.transcript (Handed number handing) refl) (not_followed id _ life fault later follows)
-
-  break_refused : (step : Step) (id : ℕ) (life : Life) (conn : ConnPast) (peer : PeerPast) (fault : Fault)
-      (later : Life)
-      → IsConn id life conn peer → FailsToBreak id life conn peer fault later → MAKES step life later
-  break_refused step id life conn peer fault later is follows =
-      let o = options_of peer.conf in
-      goes_on step id conn (broken_off peer conn) peer life later is refl
-      (grew_outside o conn.transcript Broke refl) (not_followed id _ life fault later follows)
-
-  conn_refused : (step : Step) (id : ℕ) (R : Life → ConnPast → PeerPast → Fault → Life → Type 0)
-      (life : Life) (fault : Fault) (later : Life)
-      → ((conn : ConnPast) (peer : PeerPast) → IsConn id life conn peer → R life conn peer fault later
-      → MAKES step life later)
-      → RefusesConn id R life fault later → MAKES step life later
-  conn_refused step id R life fault later makes (inl stopped) = same_life step life later stopped.2
-  conn_refused step id R life fault later makes (inr (runs, inl none)) = same_life step life later none.2
-  conn_refused step id R life fault later makes (inr (runs, inr (conn, peer, is, fails))) = makes conn peer is fails
+  conn_refused : (R : PairStep Fault) (step : Step) (id : ℕ) → Goes step id R → (life : Life) (fault : Fault)
+      (later : Life) → RefusesWorld (RefusesOn R id) life fault later → MAKES step life later
+  conn_refused R step id goes life fault later (inl stopped) = same_life step life later stopped.2
+  conn_refused R step id goes life fault later (inr (runs, inl none)) = same_life step life later none.2
+  conn_refused R step id goes life fault later (inr (runs, inr t)) = pair_makes R step id goes life fault later t
 
   -- a step that is neither on tapes nor on a connection
   world_refused : (step : Step) (R : Life → Fault → Life → Type 0) (life : Life) (fault : Fault) (later : Life)
@@ -316,9 +168,9 @@ module _ (passage : Passage) where
   tick_refused : (now : ℕ) (life : Life) (fault : Fault) (later : Life) → RefusesTick now life fault later
       → MAKES (Tick now) life later
   tick_refused now life fault later r =
-      moves now life later (ticks now (at_moment now life) r.mid later r.count r.outputs r.id r.conn r.peer r.prefix
-      (ticks_make now (at_moment now life) r.count r.outputs r.mid r.prefix) r.next
-      (not_followed r.id _ r.mid fault later r.follows))
+      moves now life later (ticks now (at_moment now life) r.mid later r.fails.0
+      (ticks_make now (at_moment now life) r.count r.outputs r.mid r.prefix)
+      (went_on FailsToTick (Tick now) r.fails.0 (went_unticked (Tick now) r.fails.0) r.mid fault later r.fails.2))
 
   stop_refused : (peer : Option (List ℕ)) (call : ℕ) (step : Step) (life : Life) (fault : Fault) (later : Life)
       → RefusesStop peer call life fault later → MAKES step life later
@@ -349,17 +201,15 @@ module _ (passage : Passage) where
   step_refused (Connect name) life fault later refuses =
       world_refused _ (RefusesConnect name) life fault later (λ is. same_life _ life later is.1) refuses
   step_refused (Hand id) life fault later refuses =
-      conn_refused _ id (FailsToHand id) life fault later
-      (λ conn peer is. hand_refused id life conn peer fault later is) refuses
+      conn_refused FailsToHand (Hand id) id (went_unhanded id) life fault later refuses
   step_refused (Bytes id octets) life fault later refuses =
-      conn_refused _ id (FailsToRead id octets.items) life fault later
-      (λ conn peer is. bytes_refused _ id octets.items life conn peer fault later is) refuses
+      conn_refused (FailsToRead octets.items) (Bytes id octets) id (went_unread octets.items (Bytes id octets) id) life
+      fault later refuses
   step_refused (Article id found) life fault later refuses =
-      conn_refused _ id (FailsToSupply id found) life fault later
-      (λ conn peer is. article_refused _ id found life conn peer fault later is) refuses
+      conn_refused (FailsToSupply found) (Article id found) id (went_unsupplied found (Article id found) id) life fault
+      later refuses
   step_refused (Break id) life fault later refuses =
-      conn_refused _ id (FailsToBreak id) life fault later
-      (λ conn peer is. break_refused _ id life conn peer fault later is) refuses
+      conn_refused FailsToBreak (Break id) id (went_unbroken (Break id) id) life fault later refuses
   step_refused (Tick now) life fault later refuses =
       world_refused _ (RefusesTick now) life fault later (tick_refused now life fault later) refuses
   step_refused (Shed name) life fault later refuses =
@@ -389,17 +239,21 @@ module _ (keeper : Keeper) (any : (event : Event) → keeper.ON event)
   pub events_all : (was now : Past) (events : List Event) → AllDo was events now → keeper.KEEPS was now
   events_all was now events does = events_keep keeper was now events does (any_on events)
 
-  went_keeps : (id : ℕ) (conn : ConnPast) (life later : Life) → WentOn id conn life later
+-- and what any connection does to its peer
+module _ (keeper : Keeper) (any : (event : Event) → keeper.ON event)
+    (keeps_left : (manner : Manner) (past : Past) → keeper.KEEPS past (left manner past))
+    (on_peer : (past : Past) (rank id : ℕ) (was now : PeerPast) → slice_get past.peers rank ≡ Some was
+    → PeerKeeps id was now → keeper.KEEPS past (with_peer past rank now)) where
+  went_keeps : (step : Step) (id : ℕ) (life later : Life) → OnPair (Went step) id life tt later
       → keeper.KEEPS life.past later.past
-  went_keeps id conn life later went =
-      subst (λ (l : Life). keeper.KEEPS life.past l.past) (sym went.changed)
-      (events_all life.past went.past _ went.settles)
+  went_keeps step id life later t =
+      let keeps = keeps_pair step id life.now t.conn t.peer t.later_conn t.later_peer t.makes in
+      subst (λ (l : Life). keeper.KEEPS life.past l.past) (sym t.changed)
+      (on_peer life.past t.conn.rank id t.peer t.later_peer t.is.peer_is keeps.0)
 
   abbrev over_tapes : Passage
   over_tapes = record {
     tapes = keeper;
-    on_claims = λ rank id now. any (Claims rank id now);
-    on_returns = λ rank id number. any (Returns rank id number);
     on_opens = λ rank. any (Opens rank);
     on_intake = any OpensIntake;
     keeps_left = keeps_left;
@@ -408,14 +262,10 @@ module _ (keeper : Keeper) (any : (event : Event) → keeper.ON event)
     halts = λ step life later keeps none. keeps;
     connects = λ step life later number rank same conns.
         keeper.alike life.past later.past (ap (λ (p : Past). p.peers) same);
-    goes_on = λ step id conn new peer life later is rank grew went. went_keeps id new life later went;
-    hands = λ id conn peer handed h past life later is over keeps went.
-        keeper.joined life.past past later.past keeps
-        (went_keeps id (with_transcript conn h) (with_past life past) later went);
+    goes_on = went_keeps;
     moves = λ now life later keeps. keeps;
-    ticks = λ now begun mid later count outputs id conn peer before keeps here went.
-        keeper.joined begun.past mid.past later.past keeps
-        (went_keeps id (ticked mid.now peer conn) mid later went);
+    ticks = λ now begun mid later id keeps t.
+        keeper.joined begun.past mid.past later.past keeps (went_keeps (Tick now) id mid later t);
   }
 
   pub runs_all : (was : Life) (steps : List Step) (lines : List (List Said)) (later : Life)

@@ -1,6 +1,7 @@
 -- The steps on connections (docs/FORMATS.md): each puts something into a transcript. Then the outcomes go to the peer's
--- station, oldest first, each an event; the output counts as sent; and the wanted article, and the reason of a close,
--- are reported.
+-- station, oldest first; the output counts as sent; and the wanted article, and the reason of a close, are reported.
+-- Each step is stated of the connection and its peer alone, and puts both back into the world (`OnPair`). What this
+-- makes of all tapes, event by event, is a law (specs/ExchangeLaws.antt).
 use Rattle.std.specs.Prelude.{◌≡◌, ◌⊎◌, ◌+◌, ◌<◌, ◌^◌, ℕ, false, None, Some, List, [], ◌∷◌, ◌++◌, length, drop}
 use Rattle.std.specs.Prelude.{if◌then◌else◌, map, nat_lt, slice_get}
 use Rattle.ledger_core.specs.State.{Owing}
@@ -13,13 +14,13 @@ use Rattle.conn_core.specs.Stands.{left_behind, ready_of}
 use Rattle.conn_core.specs.declared.options.Options.{Options}
 use Rattle.conn_core.specs.declared.outcome.Outcome.{Outcome}
 use Rattle.conn_core.specs.declared.ready.Ready.TheVariants.{Busy as NoRoom, Shut, Yes}
-use Rattle.peer_queue.specs.DebtPlace.{least_candidate}
-use Rattle.peer_queue.specs.Settled.{key_in, settled_by}
+use Rattle.peer_queue.specs.DebtPlace.{IsHeldBy, Ready, least_candidate, moved}
+use Rattle.peer_queue.specs.Settled.{IsEnded, key_in, settled_by}
 use Rattle.peer_queue.specs.declared.limits.Limits.{Limits}
-use Rattle.world_core.specs.Past.{ConnPast, Life, Past, PeerPast, TapePast, conn_at, limits_of, options_of, rank_of}
-use Rattle.world_core.specs.Past.{with_conn, with_past, with_peer, with_tape}
-use Rattle.world_core.specs.Events.{AllDo, Claims, Event, Fails, IsCandidate, Refuses, Returns, Settles}
-use Rattle.world_core.specs.Tapes.{IsReadTape}
+use Rattle.world_core.specs.Past.{ConnPast, Life, PeerPast, TapePast, conn_at, limits_of, options_of, rank_of}
+use Rattle.world_core.specs.Past.{with_conn, with_past, with_peer, with_places, with_tape}
+use Rattle.world_core.specs.Events.{IsCandidate, RefusesClaim, RefusesEnd, claimed_peer, settled, settling}
+use Rattle.world_core.specs.Tapes.{HasRoom, IsReadTape}
 use Rattle.world_core.specs.Output.{Connected, Handed, SentLine, Said, Settled, closed_said, lines_in, need_said}
 use Rattle.world_core.specs.declared.fault.Fault.{Fault}
 use Rattle.world_core.specs.declared.fault.Fault.TheVariants.{CountFull, NoConnection, NoMemory, NoPeer, NotNeeded}
@@ -69,9 +70,19 @@ sent_all options conn = record conn {
 abbrev pub followed_up : Options → ConnPast → ConnPast
 followed_up options conn = sent_all options (settled_out options conn)
 
--- each outcome goes to the peer at this rank
-abbrev pub settle_events : (rank id now : ℕ) → List Outcome → List Event
-settle_events rank id now outcomes = map (λ (outcome : Outcome). Settles rank id now outcome) outcomes
+-- an outcome of the connection of this number goes to its peer
+pub record SettlesAt (id now : ℕ) (outcome : Outcome) (peer later : PeerPast) : Type 0 where
+  pub works : peer.tape.broken ≡ false
+  pub held : IsHeldBy peer.places id (key_in outcome)
+  pub room : IsEnded (settling peer now outcome) → HasRoom peer.tape
+  pub changed : later ≡ settled now outcome peer
+
+-- these outcomes go to the peer, one after another
+pub data AllSettleAt (id now : ℕ) (begun : PeerPast) : List Outcome → PeerPast → Type 0 where
+  None_settled : AllSettleAt id now begun [] begun
+  One_settled : (outcomes : List Outcome) (outcome : Outcome) (peer later : PeerPast)
+      → AllSettleAt id now begun outcomes peer → SettlesAt id now outcome peer later
+      → AllSettleAt id now begun (outcomes ++ outcome ∷ []) later
 
 -- what is reported then, if the connection's transcript was this before the step
 abbrev pub exchange_said : Limits → Options → (id now : ℕ) → (was : List Happening) → ConnPast → List Said
@@ -82,35 +93,33 @@ exchange_said limits options id now was conn =
     ++ closed_said id (reason options was) (reason options (settled_out options conn).transcript)))
 
 -- The connection is this now, and had that transcript before the step: what follows has come about, and is reported.
-pub record Follows (id : ℕ) (was : List Happening) (conn : ConnPast) (life : Life) (outputs : List Said) (later : Life) :
-    Type 0 where
-  pub peer : PeerPast
-  pub here : slice_get life.past.peers conn.rank ≡ Some peer
-  pub past : Past
-  pub settles : AllDo life.past (settle_events conn.rank id life.now (unsettled (options_of peer.conf) conn)) past
-  pub outputs_are : outputs ≡ exchange_said (limits_of peer.conf) (options_of peer.conf) id life.now was conn
-  pub changed : later ≡ with_conn (with_past life past) id (followed_up (options_of peer.conf) conn)
+pub record Follows (id now : ℕ) (was : List Happening) (conn : ConnPast) (peer : PeerPast) (said : List Said)
+    (later_conn : ConnPast) (later : PeerPast) : Type 0 where
+  pub settles : AllSettleAt id now peer (unsettled (options_of peer.conf) conn) later
+  pub outputs_are : said ≡ exchange_said (limits_of peer.conf) (options_of peer.conf) id now was conn
+  pub changed : later_conn ≡ followed_up (options_of peer.conf) conn
 
--- Why no further outcome of these goes to the peer at this rank, and what becomes of the connection: memory for the
--- report is refused; or the first of these outcomes is refused, and waits.
-abbrev pub StopsAt : (rank id now : ℕ) → List Outcome → Past → Fault → (conn later : ConnPast) → Type 0
-StopsAt rank id now outcomes past fault conn later =
+-- Why no further outcome of these goes to the peer, and what becomes of the connection: memory for the report is
+-- refused; or the first of these outcomes is refused, and waits.
+abbrev pub StopsAt : (now : ℕ) → List Outcome → PeerPast → Fault → (conn later : ConnPast) → Type 0
+StopsAt now outcomes peer fault conn later =
     ((fault ≡ NoMemory) × (later ≡ conn))
     ⊎ ((outcome : Outcome) × (rest : List Outcome) × (outcomes ≡ outcome ∷ rest)
-    × Refuses (Settles rank id now outcome) past fault past × (later ≡ waiting conn))
+    × RefusesEnd (settling peer now outcome) peer.tape fault × (later ≡ waiting conn))
 
 -- Only a prefix of the outcomes went to the peer; the others have not gone yet, and no octet counts as sent.
-pub record FollowsNot (id : ℕ) (conn : ConnPast) (life : Life) (fault : Fault) (later : Life) : Type 0 where
-  pub peer : PeerPast
-  pub here : slice_get life.past.peers conn.rank ≡ Some peer
+pub record FollowsNot (id now : ℕ) (conn : ConnPast) (peer : PeerPast) (fault : Fault) (later_conn : ConnPast)
+    (later : PeerPast) : Type 0 where
   pub done : List Outcome
   pub left : List Outcome
   pub split : unsettled (options_of peer.conf) conn ≡ done ++ left
-  pub past : Past
-  pub settles : AllDo life.past (settle_events conn.rank id life.now done) past
-  pub later_conn : ConnPast
-  pub why : StopsAt conn.rank id life.now left past fault (all_out done conn) later_conn
-  pub changed : later ≡ with_conn (with_past life past) id later_conn
+  pub settles : AllSettleAt id now peer done later
+  pub why : StopsAt now left later fault (all_out done conn) later_conn
+
+-- What a step on a connection makes of it and its peer, by the connection's number and the moment, and what it reports,
+-- or the fault for which it is refused.
+abbrev pub PairStep : Type 0 → Type 1
+PairStep A = (id now : ℕ) → ConnPast → PeerPast → A → ConnPast → PeerPast → Type 0
 
 -- ---- a connection is made
 
@@ -138,130 +147,130 @@ RefusesConnect name life fault later =
 
 -- ---- the least candidate is handed over
 
+-- the least candidate, which no connection holds, is claimed, and its texts are read from the tape
+pub record ClaimsAt (id now : ℕ) (debt : Owing) (peer later : PeerPast) : Type 0 where
+  pub tape : TapePast
+  pub works : peer.tape.broken ≡ false
+  pub candidate : IsCandidate now peer debt
+  pub free : (other : ℕ) → IsHeldBy peer.places other debt.0 → ⊥
+  pub reads : IsReadTape peer.tape tape
+  pub changed : later ≡ claimed_peer id debt.0 tape peer
+
+-- it is given back
+pub record ReturnsAt (id number : ℕ) (peer later : PeerPast) : Type 0 where
+  pub works : peer.tape.broken ≡ false
+  pub held : IsHeldBy peer.places id number
+  pub changed : later ≡ with_places peer (moved peer.places number Ready)
+
+-- it is claimed and given back
+pub record GivesBackAt (id now : ℕ) (debt : Owing) (peer later : PeerPast) : Type 0 where
+  pub mid : PeerPast
+  pub claims : ClaimsAt id now debt peer mid
+  pub returns : ReturnsAt id debt.0 mid later
+
 -- What became of it. If there is no candidate, there is none to hand over; the tape may have been read. Otherwise the
 -- least is claimed, and offered, or given back if the connection has no room or is closed. Then the connection has this
--- transcript, and all tapes are these.
-pub data HandsOver (id now : ℕ) (conn : ConnPast) (peer : PeerPast) (past : Past) : Handover → List Happening → Past
+-- transcript, and the peer is this.
+pub data HandsOver (id now : ℕ) (conn : ConnPast) (peer : PeerPast) : Handover → List Happening → PeerPast
     → Type 0 where
   None_there : (tape : TapePast) → peer.tape.broken ≡ false → least_candidate now peer.places ≡ None
       → IsReadTape peer.tape tape
-      → HandsOver id now conn peer past Nothing conn.transcript (with_peer past conn.rank (with_tape peer tape))
-  Taken_over : (debt : Owing) (later : Past) → IsCandidate now peer debt
-      → ready_of (options_of peer.conf) conn.transcript ≡ Yes
-      → AllDo past (Claims conn.rank id now ∷ []) later
-      → HandsOver id now conn peer past (Debt debt.0) (after (options_of peer.conf) conn.transcript (Offered debt))
-      later
-  Has_no_room : (debt : Owing) (later : Past) → IsCandidate now peer debt
-      → ready_of (options_of peer.conf) conn.transcript ≡ NoRoom
-      → AllDo past (Claims conn.rank id now ∷ Returns conn.rank id debt.0 ∷ []) later
-      → HandsOver id now conn peer past Busy conn.transcript later
-  Is_shut : (debt : Owing) (later : Past) → IsCandidate now peer debt
-      → ready_of (options_of peer.conf) conn.transcript ≡ Shut
-      → AllDo past (Claims conn.rank id now ∷ Returns conn.rank id debt.0 ∷ []) later
-      → HandsOver id now conn peer past Closed conn.transcript later
+      → HandsOver id now conn peer Nothing conn.transcript (with_tape peer tape)
+  Taken_over : (debt : Owing) (later : PeerPast) → ready_of (options_of peer.conf) conn.transcript ≡ Yes
+      → ClaimsAt id now debt peer later
+      → HandsOver id now conn peer (Debt debt.0) (after (options_of peer.conf) conn.transcript (Offered debt)) later
+  Has_no_room : (debt : Owing) (later : PeerPast) → ready_of (options_of peer.conf) conn.transcript ≡ NoRoom
+      → GivesBackAt id now debt peer later
+      → HandsOver id now conn peer Busy conn.transcript later
+  Is_shut : (debt : Owing) (later : PeerPast) → ready_of (options_of peer.conf) conn.transcript ≡ Shut
+      → GivesBackAt id now debt peer later
+      → HandsOver id now conn peer Closed conn.transcript later
 
--- the connection of this number, and its peer
-pub record IsConn (id : ℕ) (life : Life) (conn : ConnPast) (peer : PeerPast) : Type 0 where
-  pub conn_is : conn_at life.conns id ≡ Some conn
-  pub peer_is : slice_get life.past.peers conn.rank ≡ Some peer
+-- the claim was refused; or the offer was refused memory, and the debt is given back
+abbrev pub FailsToOffer : (id now : ℕ) → ConnPast → PeerPast → Fault → PeerPast → Type 0
+FailsToOffer id now conn peer fault later =
+    ((tape : TapePast) × RefusesClaim now peer fault tape × (later ≡ with_tape peer tape))
+    ⊎ ((fault ≡ NoMemory) × (ready_of (options_of peer.conf) conn.transcript ≡ Yes)
+    × ((debt : Owing) × GivesBackAt id now debt peer later))
 
-pub record TakesHand (id : ℕ) (life : Life) (outputs : List Said) (later : Life) : Type 0 where
-  pub conn : ConnPast
-  pub peer : PeerPast
-  pub is : IsConn id life conn peer
+pub record TakesHand (id now : ℕ) (conn : ConnPast) (peer : PeerPast) (outputs : List Said) (later_conn : ConnPast)
+    (later : PeerPast) : Type 0 where
   pub handed : Handover
   pub transcript : List Happening
-  pub past : Past
-  pub hands : HandsOver id life.now conn peer life.past handed transcript past
+  pub mid : PeerPast
+  pub hands : HandsOver id now conn peer handed transcript mid
   pub behind : List Said
-  pub follows : Follows id conn.transcript (with_transcript conn transcript) (with_past life past) behind later
+  pub follows : Follows id now conn.transcript (with_transcript conn transcript) mid behind later_conn later
   pub outputs_are : outputs ≡ Handed id handed ∷ behind
 
--- Memory was refused for the report; or the claim was refused; or the offer was refused memory, and the debt is given
--- back; or what follows was refused.
-abbrev pub FailsToHand : ℕ → Life → ConnPast → PeerPast → Fault → Life → Type 0
-FailsToHand id life conn peer fault later =
-    ((fault ≡ NoMemory) × (later ≡ life))
-    ⊎ ((past : Past) × Fails life.past (Claims conn.rank id life.now ∷ []) fault past × (later ≡ with_past life past))
-    ⊎ ((fault ≡ NoMemory) × (ready_of (options_of peer.conf) conn.transcript ≡ Yes)
-    × ((debt : Owing) × (past : Past) × IsCandidate life.now peer debt
-    × AllDo life.past (Claims conn.rank id life.now ∷ Returns conn.rank id debt.0 ∷ []) past
-    × (later ≡ with_past life past)))
-    ⊎ ((handed : Handover) × (transcript : List Happening) × (past : Past)
-    × HandsOver id life.now conn peer life.past handed transcript past
-    × FollowsNot id (with_transcript conn transcript) (with_past life past) fault later)
+-- memory was refused for the report; or nothing was handed over; or what follows was refused
+abbrev pub FailsToHand : PairStep Fault
+FailsToHand id now conn peer fault later_conn later =
+    ((fault ≡ NoMemory) × (later_conn ≡ conn) × (later ≡ peer))
+    ⊎ (FailsToOffer id now conn peer fault later × (later_conn ≡ conn))
+    ⊎ ((handed : Handover) × (transcript : List Happening) × (mid : PeerPast)
+    × HandsOver id now conn peer handed transcript mid
+    × FollowsNot id now (with_transcript conn transcript) mid fault later_conn later)
 
 -- ---- octets come in
 
-pub record TakesBytes (id : ℕ) (octets : List ℕ) (life : Life) (outputs : List Said) (later : Life) : Type 0 where
-  pub conn : ConnPast
-  pub peer : PeerPast
-  pub is : IsConn id life conn peer
+pub record TakesBytes (octets : List ℕ) (id now : ℕ) (conn : ConnPast) (peer : PeerPast) (outputs : List Said)
+    (later_conn : ConnPast) (later : PeerPast) : Type 0 where
   pub transcript : List Happening
   pub left : List ℕ
   pub receives : Receives (options_of peer.conf) (conn.unread ++ octets) conn.transcript transcript left
-  pub follows : Follows id conn.transcript (record conn { unread = left; transcript = transcript }) life outputs later
+  pub follows : Follows id now conn.transcript (record conn { unread = left; transcript = transcript }) peer outputs
+      later_conn later
 
 -- Memory was refused to the reader: some of the whole replies were taken, and the connection is broken, with no outcome
 -- taken; or what follows was refused.
-abbrev pub FailsToRead : ℕ → List ℕ → Life → ConnPast → PeerPast → Fault → Life → Type 0
-FailsToRead id octets life conn peer fault later =
+abbrev pub FailsToRead : List ℕ → PairStep Fault
+FailsToRead octets id now conn peer fault later_conn later =
     ((fault ≡ NoMemory) × ((mid : List Happening)
     × ReceivesSome (options_of peer.conf) (conn.unread ++ octets) conn.transcript mid
-    × (later ≡ with_conn life id (record conn { unread = []; transcript = after (options_of peer.conf) mid Broke }))))
+    × (later_conn ≡ record conn { unread = []; transcript = after (options_of peer.conf) mid Broke })
+    × (later ≡ peer)))
     ⊎ ((transcript : List Happening) × (left : List ℕ)
     × Receives (options_of peer.conf) (conn.unread ++ octets) conn.transcript transcript left
-    × FollowsNot id (record conn { unread = left; transcript = transcript }) life fault later)
+    × FollowsNot id now (record conn { unread = left; transcript = transcript }) peer fault later_conn later)
 
 -- ---- an article is handed in
 
-pub record TakesArticle (id : ℕ) (found : Found) (life : Life) (outputs : List Said) (later : Life) : Type 0 where
-  pub conn : ConnPast
-  pub peer : PeerPast
-  pub is : IsConn id life conn peer
+-- the connection once this is handed in for the article of this number
+abbrev pub handed_in : PeerPast → ConnPast → ℕ → Handing → ConnPast
+handed_in peer conn number handing =
+    with_transcript conn (after (options_of peer.conf) conn.transcript (HandedIn number handing))
+
+pub record TakesArticle (found : Found) (id now : ℕ) (conn : ConnPast) (peer : PeerPast) (outputs : List Said)
+    (later_conn : ConnPast) (later : PeerPast) : Type 0 where
   pub number : ℕ
   pub handing : Handing
   pub wanted : need (options_of peer.conf) conn.transcript ≡ Some number
   pub handed : IsHandedAs found handing
-  pub follows : Follows id conn.transcript
-      (with_transcript conn (after (options_of peer.conf) conn.transcript (HandedIn number handing))) life outputs later
+  pub follows : Follows id now conn.transcript (handed_in peer conn number handing) peer outputs later_conn later
 
-abbrev pub FailsToSupply : ℕ → Found → Life → ConnPast → PeerPast → Fault → Life → Type 0
-FailsToSupply id found life conn peer fault later =
-    ((fault ≡ NotNeeded) × (need (options_of peer.conf) conn.transcript ≡ None) × (later ≡ life))
+-- no article is wanted; or memory is refused; or what follows was refused
+abbrev pub FailsToSupply : Found → PairStep Fault
+FailsToSupply found id now conn peer fault later_conn later =
+    ((fault ≡ NotNeeded) × (need (options_of peer.conf) conn.transcript ≡ None) × (later_conn ≡ conn)
+    × (later ≡ peer))
     ⊎ ((number : ℕ) × (need (options_of peer.conf) conn.transcript ≡ Some number)
-    × (((fault ≡ NoMemory) × (later ≡ life))
+    × (((fault ≡ NoMemory) × (later_conn ≡ conn) × (later ≡ peer))
     ⊎ ((handing : Handing) × IsHandedAs found handing
-    × FollowsNot id (with_transcript conn (after (options_of peer.conf) conn.transcript (HandedIn number handing)))
-    life fault later)))
+    × FollowsNot id now (handed_in peer conn number handing) peer fault later_conn later)))
 
--- ---- a connection breaks
+-- ---- a connection breaks, or its moment is set
 
 -- it broke, and holds no octets back
 abbrev pub broken_off : PeerPast → ConnPast → ConnPast
 broken_off peer conn =
     record conn { unread = []; transcript = outside (options_of peer.conf) conn.transcript Broke }
 
-pub record TakesBreak (id : ℕ) (life : Life) (outputs : List Said) (later : Life) : Type 0 where
-  pub conn : ConnPast
-  pub peer : PeerPast
-  pub is : IsConn id life conn peer
-  pub follows : Follows id conn.transcript (broken_off peer conn) life outputs later
+abbrev pub TakesBreak : PairStep (List Said)
+TakesBreak id now conn peer = Follows id now conn.transcript (broken_off peer conn) peer
 
-abbrev pub FailsToBreak : ℕ → Life → ConnPast → PeerPast → Fault → Life → Type 0
-FailsToBreak id life conn peer fault later = FollowsNot id (broken_off peer conn) life fault later
-
--- a step on a connection that is not there is refused; one on any other, as this says
-abbrev pub RefusesOn : ℕ → Life → (ConnPast → PeerPast → Fault → Life → Type 0) → Fault → Life → Type 0
-RefusesOn id life Fails fault later =
-    ((fault ≡ NoConnection) × (conn_at life.conns id ≡ None) × (later ≡ life))
-    ⊎ ((conn : ConnPast) × (peer : PeerPast) × IsConn id life conn peer × Fails conn peer fault later)
-
--- ---- the moment
-
--- the world's moment is this from the start of the step
-abbrev pub at_moment : ℕ → Life → Life
-at_moment now life = record life { now = now }
+abbrev pub FailsToBreak : PairStep Fault
+FailsToBreak id now conn peer = FollowsNot id now (broken_off peer conn) peer
 
 -- a connection once this is its moment
 abbrev pub ticked : ℕ → PeerPast → ConnPast → ConnPast
@@ -271,28 +280,76 @@ ticked now peer conn = record conn {
   transcript = outside (options_of peer.conf) conn.transcript (Tick now);
 }
 
+abbrev pub TakesMoment : PairStep (List Said)
+TakesMoment id now conn peer = Follows id now conn.transcript (ticked now peer conn) peer
+
+abbrev pub FailsToTick : PairStep Fault
+FailsToTick id now conn peer = FollowsNot id now (ticked now peer conn) peer
+
+-- ---- in the world
+
+-- the connection of this number, and its peer
+pub record IsConn (id : ℕ) (life : Life) (conn : ConnPast) (peer : PeerPast) : Type 0 where
+  pub conn_is : conn_at life.conns id ≡ Some conn
+  pub peer_is : slice_get life.past.peers conn.rank ≡ Some peer
+
+-- the connection of this number is replaced, and the peer at this rank
+abbrev pub with_pair : Life → (id rank : ℕ) → ConnPast → PeerPast → Life
+with_pair life id rank conn peer = with_conn (with_past life (with_peer life.past rank peer)) id conn
+
+-- A step on the connection of this number makes this of it and its peer, and reports this or is refused for this fault.
+-- Both are put back into the world, and all else stays.
+pub record OnPair {A : Type 0} (T : PairStep A) (id : ℕ) (life : Life) (reports : A) (later : Life) : Type 0 where
+  pub conn : ConnPast
+  pub peer : PeerPast
+  pub is : IsConn id life conn peer
+  pub later_conn : ConnPast
+  pub later_peer : PeerPast
+  pub makes : T id life.now conn peer reports later_conn later_peer
+  pub changed : later ≡ with_pair life id conn.rank later_conn later_peer
+
+-- a step on a connection that is not there is refused; one on any other, as this says
+abbrev pub RefusesOn : PairStep Fault → ℕ → Life → Fault → Life → Type 0
+RefusesOn R id life fault later =
+    ((fault ≡ NoConnection) × (conn_at life.conns id ≡ None) × (later ≡ life)) ⊎ OnPair R id life fault later
+
+-- the moment was set of the connection at this index
+abbrev pub TicksOne : ℕ → Life → List Said → Life → Type 0
+TicksOne index life outputs later =
+    (id : ℕ) × ((conn : ConnPast) × (slice_get life.conns index ≡ Some (id, conn)))
+    × OnPair TakesMoment id life outputs later
+
+-- what follows of it was refused
+abbrev pub TicksOneNot : ℕ → Life → Fault → Life → Type 0
+TicksOneNot index life fault later =
+    (id : ℕ) × ((conn : ConnPast) × (slice_get life.conns index ≡ Some (id, conn)))
+    × OnPair FailsToTick id life fault later
+
 -- the moment was set of this many connections, in the order of their numbers, and what follows has come about for each
 -- in turn
 pub data TicksEach (begun : Life) : ℕ → List Said → Life → Type 0 where
   Start : TicksEach begun 0 [] begun
-  Next : (count : ℕ) (outputs more : List Said) (mid later : Life) (id : ℕ) (conn : ConnPast) (peer : PeerPast)
-      → TicksEach begun count outputs mid → slice_get mid.conns count ≡ Some (id, conn)
-      → slice_get mid.past.peers conn.rank ≡ Some peer
-      → Follows id conn.transcript (ticked mid.now peer conn) mid more later
+  Next : (count : ℕ) (outputs more : List Said) (mid later : Life) → TicksEach begun count outputs mid
+      → TicksOne count mid more later
       → TicksEach begun (count + 1) (outputs ++ more) later
 
-abbrev pub TakesTick : ℕ → Life → List Said → Life → Type 0
-TakesTick now life outputs later = TicksEach (at_moment now life) (length life.conns) outputs later
+abbrev pub TicksSome : ℕ → Life → List Said → Life → Type 0
+TicksSome count life outputs later = TicksEach life count outputs later
 
 -- the moment was set of this many, and what follows was refused for the next
-pub record RefusesTick (now : ℕ) (life : Life) (fault : Fault) (later : Life) : Type 0 where
+pub record TicksNot (life : Life) (fault : Fault) (later : Life) : Type 0 where
   pub count : ℕ
   pub outputs : List Said
   pub mid : Life
-  pub id : ℕ
-  pub conn : ConnPast
-  pub peer : PeerPast
-  pub prefix : TicksEach (at_moment now life) count outputs mid
-  pub next : slice_get mid.conns count ≡ Some (id, conn)
-  pub here : slice_get mid.past.peers conn.rank ≡ Some peer
-  pub follows : FollowsNot id (ticked mid.now peer conn) mid fault later
+  pub prefix : TicksEach life count outputs mid
+  pub fails : TicksOneNot count mid fault later
+
+-- the world's moment is this from the start of the step
+abbrev pub at_moment : ℕ → Life → Life
+at_moment now life = record life { now = now }
+
+abbrev pub TakesTick : ℕ → Life → List Said → Life → Type 0
+TakesTick now life outputs later = TicksSome (length life.conns) (at_moment now life) outputs later
+
+abbrev pub RefusesTick : ℕ → Life → Fault → Life → Type 0
+RefusesTick now life fault later = TicksNot (at_moment now life) fault later

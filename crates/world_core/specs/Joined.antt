@@ -3,7 +3,6 @@ use Rattle.std.specs.Prelude.{◌≡◌, ℕ, true, Option, None, Some, List, sl
 use Rattle.std.specs.List.{AllZip}
 use Rattle.disk_model.specs.declared.Disk.{Ghosts}
 use Rattle.world_core.specs.Past.{ConnPast, Life, PeerPast, conn_at}
-use Rattle.world_core.specs.Exchange.{Follows, FollowsNot, RefusesOn, TicksEach, ticked}
 use Rattle.world_core.specs.Pairs.{Tells}
 use Rattle.world_core.specs.Sound.{AreTied}
 use Rattle.world_core.specs.Stands.{ConnectionStands, Stands}
@@ -13,46 +12,12 @@ use Rattle.world_core.specs.declared.fault.Fault.{Fault}
 use Rattle.world_core.specs.declared.stations.Stations.{Stations}
 use Rattle.world_core.specs.declared.output.Output.{Output}
 
--- a step on the connection of this number is refused
-abbrev pub RefusesAct : ℕ → (Life → ConnPast → PeerPast → Fault → Life → Type 0) → Life → Fault → Life → Type 0
-RefusesAct id R life fault later = RefusesOn id life (R life) fault later
-
 -- the connection of this number is at this index, with its peer; or there is none
 abbrev pub FoundConn : Life → ℕ → Option (ℕ × ℕ) → Type 0
 FoundConn life id None = conn_at life.conns id ≡ None
 FoundConn life id (Some at) =
     (conn : ConnPast) × (peer : PeerPast) × (slice_get life.conns at.0 ≡ Some (id, conn)) × (conn.rank ≡ at.1)
     × (slice_get life.past.peers at.1 ≡ Some peer)
-
--- the moment was set of this many connections
-abbrev pub TicksSome : ℕ → Life → List Said → Life → Type 0
-TicksSome count life outputs later = TicksEach life count outputs later
-
--- the moment was set of the connection at this index
-pub record TicksOne (index : ℕ) (life : Life) (outputs : List Said) (later : Life) : Type 0 where
-  pub id : ℕ
-  pub conn : ConnPast
-  pub peer : PeerPast
-  pub next : slice_get life.conns index ≡ Some (id, conn)
-  pub here : slice_get life.past.peers conn.rank ≡ Some peer
-  pub follows : Follows id conn.transcript (ticked life.now peer conn) life outputs later
-
--- what follows of it was refused
-pub record TicksOneNot (index : ℕ) (life : Life) (fault : Fault) (later : Life) : Type 0 where
-  pub id : ℕ
-  pub conn : ConnPast
-  pub peer : PeerPast
-  pub next : slice_get life.conns index ≡ Some (id, conn)
-  pub here : slice_get life.past.peers conn.rank ≡ Some peer
-  pub follows : FollowsNot id (ticked life.now peer conn) life fault later
-
--- the moment was set of this many, and what follows was refused for the next
-pub record TicksNot (life : Life) (fault : Fault) (later : Life) : Type 0 where
-  pub count : ℕ
-  pub outputs : List Said
-  pub mid : Life
-  pub prefix : TicksEach life count outputs mid
-  pub fails : TicksOneNot count mid fault later
 
 module _ {D : Type 0} {g : Ghosts D} where
   -- they stand for a running world

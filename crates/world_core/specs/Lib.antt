@@ -10,6 +10,7 @@ pub mod Halts
 pub mod Runs
 pub mod Sound
 pub mod Laws
+pub mod ExchangeLaws
 pub mod Moments
 pub mod LineLaws
 pub mod Fault

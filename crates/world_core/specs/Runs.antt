@@ -1,14 +1,13 @@
 -- What steps make of a world, what they report, and why they are refused (docs/FORMATS.md); and runs of steps.
-use Rattle.std.specs.Prelude.{◌≡◌, ◌⊎◌, ℕ, true, false, List, [], ◌∷◌, ◌++◌}
-use Rattle.world_core.specs.Past.{ConnPast, Life, Past, PeerPast, with_past}
+use Rattle.std.specs.Prelude.{◌≡◌, ◌⊎◌, true, false, List, [], ◌∷◌, ◌++◌}
+use Rattle.world_core.specs.Past.{Life, Past, with_past}
 use Rattle.world_core.specs.Safe.{IsSafe}
 use Rattle.world_core.specs.Steps.{RefusesFlushing, RefusesImport, RefusesLine, RefusesPart, RefusesRotation}
-use Rattle.world_core.specs.Steps.{RefusesSeal, RefusesShed}
-use Rattle.world_core.specs.Steps.{TakesBegin, TakesFlush, TakesImport, TakesLine, TakesPart, TakesRotate, TakesSeal}
-use Rattle.world_core.specs.Steps.{TakesShed}
-use Rattle.world_core.specs.Exchange.{FailsToBreak, FailsToHand, FailsToRead, FailsToSupply, RefusesConnect, RefusesOn}
-use Rattle.world_core.specs.Exchange.{RefusesTick}
-use Rattle.world_core.specs.Exchange.{TakesArticle, TakesBreak, TakesBytes, TakesConnect, TakesHand, TakesTick}
+use Rattle.world_core.specs.Steps.{RefusesSeal, RefusesShed, TakesBegin, TakesFlush, TakesImport, TakesLine, TakesPart}
+use Rattle.world_core.specs.Steps.{TakesRotate, TakesSeal, TakesShed}
+use Rattle.world_core.specs.Exchange.{FailsToBreak, FailsToHand, FailsToRead, FailsToSupply, OnPair, RefusesConnect}
+use Rattle.world_core.specs.Exchange.{RefusesOn, RefusesTick, TakesArticle, TakesBreak, TakesBytes, TakesConnect}
+use Rattle.world_core.specs.Exchange.{TakesHand, TakesTick}
 use Rattle.world_core.specs.Halts.{RefusesRestart, RefusesStop, Strikes, StrikesUnreported, TakesRestart, TakesStop}
 use Rattle.world_core.specs.Sound.{IsSoundLife}
 use Rattle.world_core.specs.Output.{Said}
@@ -16,8 +15,7 @@ use Rattle.world_core.specs.declared.fault.Fault.{Fault}
 use Rattle.world_core.specs.declared.fault.Fault.TheVariants.{Stopped}
 use Rattle.world_core.specs.declared.step.Step.{Step}
 use Rattle.world_core.specs.declared.step.Step.TheVariants.{Line, Flush, Begin, Part, Seal, Connect, Hand, Bytes}
-use Rattle.world_core.specs.declared.step.Step.TheVariants.{Article, Break, Tick, Shed, Import}
-use Rattle.world_core.specs.declared.step.Step.TheVariants.{Rotate, Stop, Restart}
+use Rattle.world_core.specs.declared.step.Step.TheVariants.{Article, Break, Tick, Shed, Import, Rotate, Stop, Restart}
 
 -- the world runs, and the step makes this of all tapes; all else stays
 abbrev pub OnTapes : (Past → List Said → Past → Type 0) → Life → List Said → Life → Type 0
@@ -36,10 +34,10 @@ Does Begin life outputs later = OnTapes TakesBegin life outputs later
 Does (Part name) life outputs later = OnTapes (TakesPart name) life outputs later
 Does Seal life outputs later = OnTapes TakesSeal life outputs later
 Does (Connect name) life outputs later = OnWorld (TakesConnect name) life outputs later
-Does (Hand id) life outputs later = OnWorld (TakesHand id) life outputs later
-Does (Bytes id octets) life outputs later = OnWorld (TakesBytes id octets.items) life outputs later
-Does (Article id found) life outputs later = OnWorld (TakesArticle id found) life outputs later
-Does (Break id) life outputs later = OnWorld (TakesBreak id) life outputs later
+Does (Hand id) life outputs later = OnWorld (OnPair TakesHand id) life outputs later
+Does (Bytes id octets) life outputs later = OnWorld (OnPair (TakesBytes octets.items) id) life outputs later
+Does (Article id found) life outputs later = OnWorld (OnPair (TakesArticle found) id) life outputs later
+Does (Break id) life outputs later = OnWorld (OnPair TakesBreak id) life outputs later
 Does (Tick now) life outputs later = OnWorld (TakesTick now) life outputs later
 Does (Shed name) life outputs later = OnTapes (TakesShed name) life outputs later
 Does (Rotate name) life outputs later = OnTapes (TakesRotate name) life outputs later
@@ -64,11 +62,6 @@ RefusesTapes R life fault later =
     RefusesWorld (λ (l : Life) (f : Fault) (m : Life). (past : Past) × R l.past f past × (m ≡ with_past l past)) life
     fault later
 
--- the same of a step on a connection
-abbrev pub RefusesConn : ℕ → (Life → ConnPast → PeerPast → Fault → Life → Type 0) → Life → Fault → Life → Type 0
-RefusesConn id R life fault later =
-    RefusesWorld (λ (l : Life) (f : Fault) (m : Life). RefusesOn id l (R l) f m) life fault later
-
 -- a step is refused for this fault, and leaves this, if no stop is met
 abbrev pub Refuses : Step → Life → Fault → Life → Type 0
 Refuses (Line text) life fault later = RefusesTapes (RefusesLine text.items) life fault later
@@ -77,10 +70,10 @@ Refuses Begin life fault later = RefusesWorld (λ (l : Life) (f : Fault) (m : Li
 Refuses (Part name) life fault later = RefusesTapes (RefusesPart name) life fault later
 Refuses Seal life fault later = RefusesTapes RefusesSeal life fault later
 Refuses (Connect name) life fault later = RefusesWorld (RefusesConnect name) life fault later
-Refuses (Hand id) life fault later = RefusesConn id (FailsToHand id) life fault later
-Refuses (Bytes id octets) life fault later = RefusesConn id (FailsToRead id octets.items) life fault later
-Refuses (Article id found) life fault later = RefusesConn id (FailsToSupply id found) life fault later
-Refuses (Break id) life fault later = RefusesConn id (FailsToBreak id) life fault later
+Refuses (Hand id) life fault later = RefusesWorld (RefusesOn FailsToHand id) life fault later
+Refuses (Bytes id octets) life fault later = RefusesWorld (RefusesOn (FailsToRead octets.items) id) life fault later
+Refuses (Article id found) life fault later = RefusesWorld (RefusesOn (FailsToSupply found) id) life fault later
+Refuses (Break id) life fault later = RefusesWorld (RefusesOn FailsToBreak id) life fault later
 Refuses (Tick now) life fault later = RefusesWorld (RefusesTick now) life fault later
 Refuses (Shed name) life fault later = RefusesTapes (RefusesShed name) life fault later
 Refuses (Rotate name) life fault later = RefusesTapes (RefusesRotation name) life fault later

@@ -6,7 +6,6 @@ ghost use Rattle.conn_core.specs.History.{Event, reason};
 ghost use Rattle.conn_core.specs.Stands.{StandsFor};
 ghost use Rattle.conn_core.specs.declared.reason.Reason.{Reason};
 ghost use Rattle.world_core.specs.Past.{ConnPast, PeerPast, options_of};
-ghost use Rattle.world_core.specs.Exchange.{broken_off, ticked};
 ghost use Rattle.world_core.specs.Pairs.{Tells, left_at};
 ghost use Rattle.world_core.specs.Stands.{WaitsWith};
 ghost use Rattle.world_core.specs.Output.{SentLine, closed_said, lines_in, need_said};
@@ -37,8 +36,10 @@ impl Connection {
     ghost use Rattle.feed_conf.specs.declared.conf.PeerConf.{PeerConf};
     ghost use Rattle.world_core.specs.Pairs.{PairStands, SettledAll, SettledNext, SettledNot};
     ghost use Rattle.world_core.specs.Pairs.{Followed, FollowedNot};
-    ghost use Rattle.world_core.specs.Pairs.{HandedNot, HandedOn, HandedOnNot, HandedOver};
-    ghost use Rattle.world_core.specs.Pairs.{Received, ReceivedNot, Supplied, SuppliedNot, TakesNext};
+    ghost use Rattle.world_core.specs.Exchange.{FailsToBreak, FailsToHand, FailsToRead, FailsToSupply};
+    ghost use Rattle.world_core.specs.Exchange.{FailsToTick, TakesArticle, TakesBreak, TakesBytes};
+    ghost use Rattle.world_core.specs.Exchange.{TakesHand, TakesMoment};
+    ghost use Rattle.world_core.specs.Pairs.{HandedNot, HandedOver, PairMade, PairRefused, TakesNext};
     ghost use Rattle.world_core.specs.Stands.{HoldsTranscript};
 
     /// Makes a connection of this number to the peer at this rank, which has these settings.
@@ -150,10 +151,12 @@ impl Connection {
     ) -> Result<(), Fault>
         ensures ok { (id : ℕ) (conn : ConnPast) (past : PeerPast)
             → PairStands id conn past self.old peer.old → OnOk result
-            (HandedOn id now conn past outputs.old.items self.new peer.new outputs.new.items) }
+            (PairMade (TakesHand id now conn past) id
+            outputs.old.items self.new peer.new outputs.new.items) }
         ensures err { (id : ℕ) (conn : ConnPast) (past : PeerPast)
             → PairStands id conn past self.old peer.old
-            → IfErr result (λ fault. HandedOnNot id now conn past fault self.new peer.new) }
+            → IfErr result (λ fault.
+            PairRefused (FailsToHand id now conn past fault) id self.new peer.new) }
     {
         outputs.reserve(1)?;
         let was_open = self.conn.closed().is_none();
@@ -208,11 +211,12 @@ impl Connection {
     ) -> Result<(), Fault>
         ensures ok { (id : ℕ) (conn : ConnPast) (past : PeerPast)
             → PairStands id conn past self.old peer.old → OnOk result
-            (Received octets.now id now conn past
+            (PairMade (TakesBytes octets.now id now conn past) id
             outputs.old.items self.new peer.new outputs.new.items) }
         ensures err { (id : ℕ) (conn : ConnPast) (past : PeerPast)
             → PairStands id conn past self.old peer.old → IfErr result
-            (λ fault. ReceivedNot octets.now id now conn past fault self.new peer.new) }
+            (λ fault.
+            PairRefused (FailsToRead octets.now id now conn past fault) id self.new peer.new) }
     {
         let was_open = self.conn.closed().is_none();
         self.conn.input(octets)?;
@@ -229,11 +233,12 @@ impl Connection {
     ) -> Result<(), Fault>
         ensures ok { (id : ℕ) (conn : ConnPast) (past : PeerPast)
             → PairStands id conn past self.old peer.old → OnOk result
-            (Supplied found.now id now conn past
+            (PairMade (TakesArticle found.now id now conn past) id
             outputs.old.items self.new peer.new outputs.new.items) }
         ensures err { (id : ℕ) (conn : ConnPast) (past : PeerPast)
             → PairStands id conn past self.old peer.old → IfErr result
-            (λ fault. SuppliedNot found.now id now conn past fault self.new peer.new) }
+            (λ fault.
+            PairRefused (FailsToSupply found.now id now conn past fault) id self.new peer.new) }
     {
         let was_open = self.conn.closed().is_none();
         let Some(key) = self.conn.need() else {
@@ -256,12 +261,12 @@ impl Connection {
     ) -> Result<(), Fault>
         ensures ok { (id : ℕ) (conn : ConnPast) (past : PeerPast)
             → PairStands id conn past self.old peer.old → OnOk result
-            (Followed id now conn.transcript (ticked now past conn) past
+            (PairMade (TakesMoment id now conn past) id
             outputs.old.items self.new peer.new outputs.new.items) }
         ensures err { (id : ℕ) (conn : ConnPast) (past : PeerPast)
             → PairStands id conn past self.old peer.old → IfErr result
-            (λ fault. FollowedNot id now (ticked now past conn) past fault
-            self.new peer.new) }
+            (λ fault.
+            PairRefused (FailsToTick id now conn past fault) id self.new peer.new) }
     {
         let was_open = self.conn.closed().is_none();
         self.conn.tick(now);
@@ -303,11 +308,12 @@ impl Connection {
     ) -> Result<(), Fault>
         ensures ok { (id : ℕ) (conn : ConnPast) (past : PeerPast)
             → PairStands id conn past self.old peer.old → OnOk result
-            (Followed id now conn.transcript (broken_off past conn) past
+            (PairMade (TakesBreak id now conn past) id
             outputs.old.items self.new peer.new outputs.new.items) }
         ensures err { (id : ℕ) (conn : ConnPast) (past : PeerPast)
             → PairStands id conn past self.old peer.old → IfErr result
-            (λ fault. FollowedNot id now (broken_off past conn) past fault self.new peer.new) }
+            (λ fault.
+            PairRefused (FailsToBreak id now conn past fault) id self.new peer.new) }
     {
         let was_open = self.conn.closed().is_none();
         self.conn.broken();

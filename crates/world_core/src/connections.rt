@@ -3,9 +3,9 @@ ghost use Rattle.std.specs.Prelude.{◌≡◌, ◌≢◌, ◌+◌, ◌<◌, ◌^
 ghost use Rattle.std.specs.Prelude.{IfErr, IfNone, IfOk, IfSome, OnOk, vec_len};
 ghost use Rattle.std.specs.List.{AllByRecursion};
 ghost use Rattle.std.specs.List.Sorted.{IsStrictlyIncreasing};
-ghost use Rattle.world_core.specs.Exchange.{FailsToBreak, FailsToHand, FailsToRead, FailsToSupply, RefusesConnect};
-ghost use Rattle.world_core.specs.Exchange.{RefusesTick, TakesArticle, TakesBreak, TakesBytes, TakesConnect};
-ghost use Rattle.world_core.specs.Exchange.{TakesHand, TakesTick};
+ghost use Rattle.world_core.specs.Exchange.{FailsToBreak, FailsToHand, FailsToRead, FailsToSupply, OnPair};
+ghost use Rattle.world_core.specs.Exchange.{RefusesConnect, RefusesOn, RefusesTick, TakesArticle, TakesBreak};
+ghost use Rattle.world_core.specs.Exchange.{TakesBytes, TakesConnect, TakesHand, TakesTick};
 ghost use Rattle.world_core.specs.Past.{Life};
 ghost use Rattle.world_core.specs.declared.connection.Connection.{Connection};
 
@@ -19,7 +19,7 @@ use disk_model::Disk;
 use funnel::PeerName;
 
 impl World {
-    ghost use Rattle.world_core.specs.Runs.{OnWorld, RefusesConn, RefusesWorld};
+    ghost use Rattle.world_core.specs.Runs.{OnWorld, RefusesWorld};
     ghost use Rattle.world_core.specs.Stands.{WorldStands};
     ghost use Rattle.world_core.specs.Turn.{Made, Refused};
 
@@ -48,9 +48,9 @@ impl World {
     pub(crate) fn hand(&mut self, id: u64, out: &mut Vec<Output>) -> Result<(), Fault>
         requires { out.old.items ≡ [] }
         ensures ok { (life : Life) → WorldStands self.old life → OnOk result
-            (Made (OnWorld (TakesHand id)) life out.new.items self.new) }
+            (Made (OnWorld (OnPair TakesHand id)) life out.new.items self.new) }
         ensures err { (life : Life) → WorldStands self.old life → IfErr result
-            (λ fault. Refused (RefusesConn id (FailsToHand id)) life fault self.new) }
+            (λ fault. Refused (RefusesWorld (RefusesOn FailsToHand id)) life fault self.new) }
     {
         let Stage::Running(stations, connections) = &mut self.stage else {
             return Err(Fault::Stopped);
@@ -70,9 +70,10 @@ impl World {
     ) -> Result<(), Fault>
         requires { out.old.items ≡ [] }
         ensures ok { (life : Life) → WorldStands self.old life → OnOk result
-            (Made (OnWorld (TakesBytes id octets.now)) life out.new.items self.new) }
+            (Made (OnWorld (OnPair (TakesBytes octets.now) id)) life out.new.items self.new) }
         ensures err { (life : Life) → WorldStands self.old life → IfErr result
-            (λ fault. Refused (RefusesConn id (FailsToRead id octets.now)) life fault self.new) }
+            (λ fault. Refused (RefusesWorld (RefusesOn (FailsToRead octets.now) id))
+            life fault self.new) }
     {
         let Stage::Running(stations, connections) = &mut self.stage else {
             return Err(Fault::Stopped);
@@ -92,9 +93,10 @@ impl World {
     ) -> Result<(), Fault>
         requires { out.old.items ≡ [] }
         ensures ok { (life : Life) → WorldStands self.old life → OnOk result
-            (Made (OnWorld (TakesArticle id found.now)) life out.new.items self.new) }
+            (Made (OnWorld (OnPair (TakesArticle found.now) id)) life out.new.items self.new) }
         ensures err { (life : Life) → WorldStands self.old life → IfErr result
-            (λ fault. Refused (RefusesConn id (FailsToSupply id found.now)) life fault self.new) }
+            (λ fault. Refused (RefusesWorld (RefusesOn (FailsToSupply found.now) id))
+            life fault self.new) }
     {
         let Stage::Running(stations, connections) = &mut self.stage else {
             return Err(Fault::Stopped);
@@ -109,9 +111,9 @@ impl World {
     pub(crate) fn break_off(&mut self, id: u64, out: &mut Vec<Output>) -> Result<(), Fault>
         requires { out.old.items ≡ [] }
         ensures ok { (life : Life) → WorldStands self.old life → OnOk result
-            (Made (OnWorld (TakesBreak id)) life out.new.items self.new) }
+            (Made (OnWorld (OnPair TakesBreak id)) life out.new.items self.new) }
         ensures err { (life : Life) → WorldStands self.old life → IfErr result
-            (λ fault. Refused (RefusesConn id (FailsToBreak id)) life fault self.new) }
+            (λ fault. Refused (RefusesWorld (RefusesOn FailsToBreak id)) life fault self.new) }
     {
         let Stage::Running(stations, connections) = &mut self.stage else {
             return Err(Fault::Stopped);
@@ -139,8 +141,8 @@ impl World {
 }
 
 impl<D: Disk> Stations<D> {
-    ghost use Rattle.world_core.specs.Joined.{AreRunning, FoundConn, MadeOn, RefusedOn, RefusesAct};
-    ghost use Rattle.world_core.specs.Joined.{TicksNot, TicksOne, TicksOneNot, TicksSome};
+    ghost use Rattle.world_core.specs.Exchange.{TicksNot, TicksOne, TicksOneNot, TicksSome};
+    ghost use Rattle.world_core.specs.Joined.{AreRunning, FoundConn, MadeOn, RefusedOn};
 
     // Makes a connection to the peer of this name, with the number after the last, and reports it.
     fn connect(
@@ -185,11 +187,11 @@ impl<D: Disk> Stations<D> {
     ) -> Result<(), Fault>
         ensures ok { (life : Life) → AreRunning life self.old connections.old.items
             → life.now ≡ now → OnOk result
-            (MadeOn (TakesHand id) life.connected life outputs.old.items outputs.new.items
+            (MadeOn (OnPair TakesHand id) life.connected life outputs.old.items outputs.new.items
             self.new connections.new.items) }
         ensures err { (life : Life) → AreRunning life self.old connections.old.items
             → life.now ≡ now → IfErr result (λ fault. RefusedOn
-            (RefusesAct id (FailsToHand id)) life fault self.new connections.new.items) }
+            (RefusesOn FailsToHand id) life fault self.new connections.new.items) }
     {
         let Some((index, rank)) = self.find_conn(connections, id) else {
             return Err(Fault::NoConnection);
@@ -209,11 +211,11 @@ impl<D: Disk> Stations<D> {
     ) -> Result<(), Fault>
         ensures ok { (life : Life) → AreRunning life self.old connections.old.items
             → life.now ≡ now → OnOk result
-            (MadeOn (TakesBytes id octets.now) life.connected life outputs.old.items
+            (MadeOn (OnPair (TakesBytes octets.now) id) life.connected life outputs.old.items
             outputs.new.items self.new connections.new.items) }
         ensures err { (life : Life) → AreRunning life self.old connections.old.items
             → life.now ≡ now → IfErr result (λ fault. RefusedOn
-            (RefusesAct id (FailsToRead id octets.now)) life fault
+            (RefusesOn (FailsToRead octets.now) id) life fault
             self.new connections.new.items) }
     {
         let Some((index, rank)) = self.find_conn(connections, id) else {
@@ -234,11 +236,11 @@ impl<D: Disk> Stations<D> {
     ) -> Result<(), Fault>
         ensures ok { (life : Life) → AreRunning life self.old connections.old.items
             → life.now ≡ now → OnOk result
-            (MadeOn (TakesArticle id found.now) life.connected life outputs.old.items
+            (MadeOn (OnPair (TakesArticle found.now) id) life.connected life outputs.old.items
             outputs.new.items self.new connections.new.items) }
         ensures err { (life : Life) → AreRunning life self.old connections.old.items
             → life.now ≡ now → IfErr result (λ fault. RefusedOn
-            (RefusesAct id (FailsToSupply id found.now)) life fault
+            (RefusesOn (FailsToSupply found.now) id) life fault
             self.new connections.new.items) }
     {
         let Some((index, rank)) = self.find_conn(connections, id) else {
@@ -258,11 +260,11 @@ impl<D: Disk> Stations<D> {
     ) -> Result<(), Fault>
         ensures ok { (life : Life) → AreRunning life self.old connections.old.items
             → life.now ≡ now → OnOk result
-            (MadeOn (TakesBreak id) life.connected life outputs.old.items outputs.new.items
+            (MadeOn (OnPair TakesBreak id) life.connected life outputs.old.items outputs.new.items
             self.new connections.new.items) }
         ensures err { (life : Life) → AreRunning life self.old connections.old.items
             → life.now ≡ now → IfErr result (λ fault. RefusedOn
-            (RefusesAct id (FailsToBreak id)) life fault self.new connections.new.items) }
+            (RefusesOn FailsToBreak id) life fault self.new connections.new.items) }
     {
         let Some((index, rank)) = self.find_conn(connections, id) else {
             return Err(Fault::NoConnection);

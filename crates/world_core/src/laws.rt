@@ -1,6 +1,7 @@
 //! Laws of worlds, each the contract of a function that does nothing.
 ghost use Rattle.std.specs.Prelude.{◌+◌, List, [], ◌++◌, take};
 ghost use Rattle.world_core.specs.Events.{AllDo, Event};
+ghost use Rattle.world_core.specs.ExchangeLaws.{HandingIsEvents, OutcomesAreEvents, PutBackIsSame};
 ghost use Rattle.world_core.specs.Keeping.{PeerStays, PeersStay};
 ghost use Rattle.world_core.specs.Laws.{AllAreRecovered, AllFinalsAreRight, AllStayAcknowledged};
 ghost use Rattle.world_core.specs.Laws.{Comes, LinesAreAcknowledged, OverRuns, StillOwes};
@@ -97,6 +98,16 @@ pub fn acknowledged_lines_are_kept()
 /// had.
 pub fn line_read_again()
     ensures { LinesAreReadAgain }
+{}
+
+/// A step on a connection is stated of the connection and its peer alone. In the world, what it makes of the peer is
+/// events of the tapes, one after another, and all tapes are safe after each: first a debt may be claimed, and given
+/// back (`handing`), and then each outcome goes to the peer (`outcomes`), whether the step is taken or refused. If it
+/// leaves both as they were, then the whole world is as it was (`unchanged`).
+pub fn connections_act_by_events()
+    ensures handing { HandingIsEvents }
+    ensures outcomes { OutcomesAreEvents }
+    ensures unchanged { PutBackIsSame }
 {}
 
 /// Over any steps, taken or refused, each final answer that is noted at a peer, and was not before them, has its

@@ -2,17 +2,16 @@
 use Rattle.std.proofs.Common.{refl, inl, inr}
 use Rattle.world_core.proofs.ConnectionBreaks.{open_said}
 use Rattle.world_core.proofs.Results.{if_err, if_err_map, on_ok_map}
+use Rattle.world_core.proofs.OutcomesSettled.{made_by, refused_by}
 use Rattle.world_core.proofs.OctetsComeIn.{pair_received, pair_unread}
 use Rattle.world_core.proofs.connection.Connection.receive.Goals as goal
 
 pub returns-in_err-input-clause-err : goal.returns-in_err-input-clause-err
 returns-in_err-input-clause-err g c = λ id conn past pair.
     if_err c.from_residual.result _ _ c.from_residual.ensures.1 (λ fault is.
-    inl (
-      is,
-      pair_unread id conn past c.args.self.now _ c.args.peer.now pair refl refl c.in_err-input.ensures.same_id
-          c.args.octets.now c.in_err-input.ensures.err,
-    ))
+    let so = pair_unread id conn past c.args.self.now _ c.args.peer.now pair refl refl c.in_err-input.ensures.same_id
+    c.args.octets.now c.in_err-input.ensures.err in
+    record { later_conn = _; later = past; refuses = inl (is, (so.0, so.1, refl, refl)); stand = so.2 })
 
 pub returns-clause-ok : goal.returns-clause-ok
 returns-clause-ok g c = λ id conn past pair.
@@ -23,7 +22,12 @@ returns-clause-ok g c = λ id conn past pair.
     so.3
     (open_said past.conf conn c.args.self.now c.is_none-was_open.result c.closed.result pair.holds c.closed.ensures
     c.is_none-was_open.ensures))
-    (λ followed. record { transcript = so.0; left = so.1; receives = so.2; followed = followed })
+    (made_by _ _ id _ _ _ _ (λ said later_conn later follows. record {
+      transcript = so.0;
+      left = so.1;
+      receives = so.2;
+      follows = follows;
+    }))
 
 pub returns-clause-err : goal.returns-clause-err
 returns-clause-err g c = λ id conn past pair.
@@ -31,4 +35,4 @@ returns-clause-err g c = λ id conn past pair.
     c.args.octets.now c.in_ok-input.ensures.ok in
     if_err_map c.tell.result _ _
     (c.tell.ensures.err id (record conn { unread = so.1; transcript = so.0 }) past so.3)
-    (λ fault followed. inr (so.0, so.1, so.2, followed))
+    (λ fault. refused_by _ _ id _ _ (λ later_conn later follows. inr (so.0, so.1, so.2, follows)))

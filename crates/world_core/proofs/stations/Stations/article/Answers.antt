@@ -1,6 +1,9 @@
 -- The step on the connection and its peer is the world's.
 use Rattle.std.proofs.Common.{arith, refl}
-use Rattle.world_core.proofs.ConnectionSteps.{found_put, supplied, supplied_not}
+use Rattle.world_core.specs.Exchange.{FailsToSupply, TakesArticle}
+use Rattle.world_core.specs.declared.step.Step.TheVariants.{Hand}
+use Rattle.world_core.proofs.ConnectionSteps.{found_put, made_pair, refused_pair}
+use Rattle.world_core.proofs.PairGoesOn.{went_article, went_unsupplied}
 use Rattle.world_core.proofs.Results.{if_err_map, on_ok_map}
 use Rattle.world_core.proofs.stations.Stations.article.Goals as goal
 
@@ -12,8 +15,9 @@ returns-clause-ok g c = λ life running now_is.
     (omega (arith, c.in-Some.ensures.within.1)) c.index_mut-connection.ensures.value c.index_mut-peer.ensures.value
     (record { peers = refl; intake = refl; last = refl; begun = refl }) refl in
     on_ok_map c.supply.result _ _ (c.supply.ensures.ok c.args.id so.conn so.peer so.pair)
-    (supplied life c.args.self.now _ c.args.connections.now.items _ running c.args.id so.conn so.peer
-    c.index_mut-connection.result.now _ c.index_mut-peer.result.now _ so.put c.args.now now_is c.args.found.now
+    (made_pair life c.args.self.now _ c.args.connections.now.items _ running c.args.id so.conn so.peer
+    c.index_mut-connection.result.now _ c.index_mut-peer.result.now _ so.put c.args.now now_is
+    (TakesArticle c.args.found.now) (went_article c.args.found.now (Hand c.args.id) c.args.id)
     c.args.outputs.now.items c.supply.new.outputs.items)
 
 pub returns-clause-err : goal.returns-clause-err
@@ -24,5 +28,7 @@ returns-clause-err g c = λ life running now_is.
     (omega (arith, c.in-Some.ensures.within.1)) c.index_mut-connection.ensures.value c.index_mut-peer.ensures.value
     (record { peers = refl; intake = refl; last = refl; begun = refl }) refl in
     if_err_map c.supply.result _ _ (c.supply.ensures.err c.args.id so.conn so.peer so.pair)
-    (supplied_not life c.args.self.now _ c.args.connections.now.items _ running c.args.id so.conn so.peer
-    c.index_mut-connection.result.now _ c.index_mut-peer.result.now _ so.put c.args.now now_is c.args.found.now)
+    (refused_pair life c.args.self.now _ c.args.connections.now.items _ running c.args.id so.conn so.peer
+    c.index_mut-connection.result.now _ c.index_mut-peer.result.now _ so.put c.args.now now_is
+    (FailsToSupply c.args.found.now)
+    (went_unsupplied c.args.found.now (Hand c.args.id) c.args.id))

@@ -1,6 +1,7 @@
 -- One more connection at each turn.
 use Rattle.std.proofs.Common.{◌≡◌, ◌∙◌, ℕ, length, arith, refl, subst}
-use Rattle.world_core.specs.Joined.{MadeOn, TicksSome}
+use Rattle.world_core.specs.Exchange.{TicksSome}
+use Rattle.world_core.specs.Joined.{MadeOn}
 use Rattle.world_core.proofs.Results.{if_err_is}
 use Rattle.world_core.proofs.ConnectionsTick.{count_conns, ticks_more, ticks_none, ticks_not}
 use Rattle.world_core.proofs.stations.Stations.tick.Goals as goal

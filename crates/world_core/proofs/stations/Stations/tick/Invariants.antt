@@ -1,6 +1,7 @@
 use Rattle.std.proofs.Common.{◌≡◌, vec_len}
 use Rattle.world_core.specs.Past.{Life}
-use Rattle.world_core.specs.Joined.{AreRunning, MadeOn, TicksSome}
+use Rattle.world_core.specs.Exchange.{TicksSome}
+use Rattle.world_core.specs.Joined.{AreRunning, MadeOn}
 use Rattle.world_core.proofs.stations.Stations.tick.Given as goal
 
 -- the moment of the connections so far was set

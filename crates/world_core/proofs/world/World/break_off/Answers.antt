@@ -1,7 +1,6 @@
 -- The step of the stations and the connections is the world's.
 use Rattle.std.proofs.Common.{refl, sym}
-use Rattle.world_core.specs.Exchange.{TakesBreak, FailsToBreak}
-use Rattle.world_core.specs.Joined.{RefusesAct}
+use Rattle.world_core.specs.Exchange.{FailsToBreak, OnPair, RefusesOn, TakesBreak}
 use Rattle.world_core.proofs.Results.{if_err_map, on_ok_map}
 use Rattle.world_core.proofs.StationsInWorld.{made_world, refused_world, running_of}
 use Rattle.world_core.proofs.world.World.break_off.Goals as goal
@@ -11,7 +10,7 @@ returns-clause-ok c = λ life stands.
     let running = running_of c.args.self.now life c.in-Running.stations c.in-Running.connections c.in-Running.is
     stands in
     on_ok_map c.break_off.result _ _ (c.break_off.ensures.ok life running (sym stands.now))
-    (made_world (TakesBreak c.args.id) life.connected life _ c.break_off.new.self c.break_off.new.connections _ _
+    (made_world (OnPair TakesBreak c.args.id) life.connected life _ c.break_off.new.self c.break_off.new.connections _ _
     running.running c.requires refl stands.armed stands.connected stands.now)
 
 pub returns-clause-err : goal.returns-clause-err
@@ -19,5 +18,5 @@ returns-clause-err c = λ life stands.
     let running = running_of c.args.self.now life c.in-Running.stations c.in-Running.connections c.in-Running.is
     stands in
     if_err_map c.break_off.result _ _ (c.break_off.ensures.err life running (sym stands.now))
-    (λ fault. refused_world (RefusesAct c.args.id (FailsToBreak c.args.id)) life _ fault c.break_off.new.self
+    (λ fault. refused_world (RefusesOn FailsToBreak c.args.id) life _ fault c.break_off.new.self
     c.break_off.new.connections running.running refl stands.armed stands.connected stands.now)

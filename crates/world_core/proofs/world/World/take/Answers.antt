@@ -1,7 +1,7 @@
 -- Each step is its own function's.
 use Rattle.std.proofs.Common.{List, ℕ, subst}
-use Rattle.world_core.specs.Exchange.{FailsToRead, TakesBytes}
-use Rattle.world_core.specs.Runs.{RefusesConn}
+use Rattle.world_core.specs.Exchange.{FailsToRead, OnPair, RefusesOn, TakesBytes}
+use Rattle.world_core.specs.Runs.{RefusesWorld}
 use Rattle.world_core.proofs.Results.{if_err_map, on_ok_map}
 use Rattle.world_core.proofs.StepsOfWorlds.{as_step, as_step_not, made_took, refused_not}
 use Rattle.world_core.proofs.world.World.take.Goals as goal
@@ -30,8 +30,11 @@ pub returns-in-Bytes-clause-ok : goal.returns-in-Bytes-clause-ok
 returns-in-Bytes-clause-ok c = λ life stands.
     as_step c.args.step.now _ c.bytes.result life _ _ c.in-Bytes.is
     (on_ok_map c.bytes.result _ _ (c.bytes.ensures.ok life stands)
-    (made_took _ _ life _ _ (λ outputs later t.
-    (t.0, subst (λ (octets : List ℕ). TakesBytes c.in-Bytes.id octets life outputs later) c.deref.ensures.value t.1))))
+    (made_took _ _ life _ _ (λ outputs later t. (
+      t.0,
+      subst (λ (octets : List ℕ). OnPair (TakesBytes octets) c.in-Bytes.id life outputs later)
+          c.deref.ensures.value t.1,
+    ))))
 
 pub returns-in-Bytes-clause-err : goal.returns-in-Bytes-clause-err
 returns-in-Bytes-clause-err c = λ life stands.
@@ -39,7 +42,7 @@ returns-in-Bytes-clause-err c = λ life stands.
     (if_err_map c.bytes.result _ _ (c.bytes.ensures.err life stands)
     (refused_not _ _ life _
     (λ fault later r. subst (λ (octets : List ℕ).
-    RefusesConn c.in-Bytes.id (FailsToRead c.in-Bytes.id octets) life fault later) c.deref.ensures.value r)))
+    RefusesWorld (RefusesOn (FailsToRead octets) c.in-Bytes.id) life fault later) c.deref.ensures.value r)))
 
 pub returns-in-Article-clause-ok : goal.returns-in-Article-clause-ok
 returns-in-Article-clause-ok c = λ life stands.

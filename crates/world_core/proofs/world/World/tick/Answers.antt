@@ -1,9 +1,9 @@
 -- The world's moment is the new one from the start of the step.
 use Rattle.std.proofs.Common.{length, refl}
-use Rattle.world_core.specs.Exchange.{at_moment}
-use Rattle.world_core.specs.Joined.{TicksNot, TicksSome}
+use Rattle.world_core.specs.Exchange.{TicksNot, TicksSome, at_moment}
 use Rattle.world_core.proofs.Results.{if_err_map, on_ok_map}
-use Rattle.world_core.proofs.StationsInWorld.{made_world, refused_world, running_at, running_of, ticked_world, unticked_world}
+use Rattle.world_core.proofs.StationsInWorld.{made_world, refused_world, running_at, running_of, ticked_world}
+use Rattle.world_core.proofs.StationsInWorld.{unticked_world}
 use Rattle.world_core.proofs.world.World.tick.Goals as goal
 
 pub returns-clause-ok : goal.returns-clause-ok
