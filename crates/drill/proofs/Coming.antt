@@ -7,12 +7,12 @@ use Rattle.world_core.specs.Laws.Comes.{No_step, Step_taken, Step_refused}
 use Rattle.world_core.specs.Past.{Life}
 use Rattle.world_core.specs.Runs.{Runs}
 use Rattle.world_core.specs.Runs.Runs.{Start, Next}
-use Rattle.world_core.specs.Output.{Said}
+use Rattle.world_core.specs.Output.{View}
 use Rattle.world_core.specs.declared.fault.Fault.{Fault}
 use Rattle.world_core.specs.declared.step.Step.{Step}
 use Rattle.drill.specs.Drill.{WasRefused}
 
-pub runs_come : (begun : Life) (steps : List Step) (lines : List (List Said)) (later : Life)
+pub runs_come : (begun : Life) (steps : List Step) (lines : List (List View)) (later : Life)
     → Runs begun steps lines later → Comes begun steps lines later
 runs_come begun _ _ _ (Start safe sound) = No_step safe sound
 runs_come begun _ _ _ (Next steps step lines outputs life later runs takes safe sound) =

@@ -8,7 +8,7 @@ use Rattle.drill_script.specs.Script.{IsScript}
 use Rattle.drill_script.specs.declared.read.Script.{Script}
 use Rattle.world_core.specs.Given.{BeginsFrom, RefusesTapes}
 use Rattle.world_core.specs.Stands.{Ends, Reports, HadNoRoom, WasRefused as RunRefused}
-use Rattle.world_core.specs.Output.{Said, said_by}
+use Rattle.world_core.specs.Output.{View, views_by}
 use Rattle.world_core.specs.declared.fault.Fault.{Fault}
 use Rattle.world_core.specs.declared.fault.Fault.TheVariants.{NoPeer, NoConnection, Stopped, Running, NotNeeded, Tape}
 use Rattle.world_core.specs.declared.fault.Fault.TheVariants.{CountFull}
@@ -30,7 +30,7 @@ begun_of : (script : Script) (world : World) → (b : BeginsFrom script.peers.it
 begun_of script world b = record { ordered = b.ordered; permuted = b.permuted; rises = b.rises; fresh = b.fresh }
 
 -- all steps were taken
-pub taken_played : (script : Script) (world later : World) (lines : List (List Said)) (counts : List (List ℕ × Totals))
+pub taken_played : (script : Script) (world later : World) (lines : List (List View)) (counts : List (List ℕ × Totals))
     (printed : List ℕ) (ending : Ending) → BeginsFrom script.peers.items world →
     Reports script.steps.items world lines counts later →
     printed ≡ steps_text lines ++ (flat_map totals_text counts ++ end_text (length script.steps.items)) →
@@ -95,7 +95,7 @@ unmade_played script NoTapesMemory printed ending refused none ends =
 module _ (script : Script) (world later : World) (fault : WorldFault) (printed : List ℕ)
     (b : BeginsFrom script.peers.items world)
     (placed : length script.lines.items ≡ length script.steps.items)
-    (prints : printed ≡ steps_text (said_by fault.lines.items) ++ refused_text fault.step fault.kind) where
+    (prints : printed ≡ steps_text (views_by fault.lines.items) ++ refused_text fault.step fault.kind) where
   line_told : (index : ℕ) → fault.step ≡ index + 1 →
       line_of script.lines.items fault.step ≡ slice_index_or script.lines.items index 0
   line_told index is = let next : fault.step ≡ suc index = omega (arith, is) in
@@ -115,7 +115,7 @@ module _ (script : Script) (world later : World) (fault : WorldFault) (printed :
         here = refused.here;
         said = slice_get-get_or script.lines.items refused.index 0 within
             ∙ ap Some (sym (line_told refused.index refused.numbered));
-        lines = said_by fault.lines.items;
+        lines = views_by fault.lines.items;
         mid = refused.mid;
         runs = refused.runs;
         later = refused.later;
@@ -123,14 +123,14 @@ module _ (script : Script) (world later : World) (fault : WorldFault) (printed :
         safe = refused.safe;
         sound = refused.stands.sound;
         prints = prints
-            ∙ ap (λ (s : ℕ). steps_text (said_by fault.lines.items) ++ refused_text s fault.kind) refused.numbered;
+            ∙ ap (λ (s : ℕ). steps_text (views_by fault.lines.items) ++ refused_text s fault.kind) refused.numbered;
       }
 
   no_room : HadNoRoom b.life fault later → (ending : Ending) →
       EndsBy (line_of script.lines.items fault.step) fault.kind ending → IsPlayed script printed ending
   no_room room ending ends =
       let text : printed ≡ refused_text 1 NoMemory =
-      prints ∙ ap (λ l. steps_text (said_by l) ++ refused_text fault.step fault.kind) room.lines
+      prints ∙ ap (λ l. steps_text (views_by l) ++ refused_text fault.step fault.kind) room.lines
       ∙ ap (λ (s : ℕ). refused_text s fault.kind) room.numbered ∙ ap (refused_text 1) room.kind in
       subst (IsPlayed script printed) (sym (ends.0 room.kind)) (inr (inl text))
 
@@ -149,7 +149,7 @@ pub stopped_told : {E : Type 0} (script : Script) (world later : World) (fault :
     BeginsFrom script.peers.items world → Ends steps world fault later →
     length script.lines.items ≡ length script.steps.items →
     IfOk answer (λ (p : Played). p.printed.items
-    ≡ steps_text (said_by fault.lines.items) ++ refused_text fault.step fault.kind) →
+    ≡ steps_text (views_by fault.lines.items) ++ refused_text fault.step fault.kind) →
     (fault.kind ≡ NoMemory → IfOk answer (λ (p : Played). p.ending ≡ NoMemoryLeft)) →
     (fault.kind ≢ NoMemory → IfOk answer (λ (p : Played). p.ending
     ≡ Refused (record { line = line_of lines fault.step; why = ByStep fault.kind }))) →

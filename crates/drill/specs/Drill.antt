@@ -12,7 +12,7 @@ use Rattle.world_core.specs.Runs.{RefusesStep, Runs}
 use Rattle.world_core.specs.Safe.{IsSafe}
 use Rattle.world_core.specs.Sound.{IsSoundLife, NamesRise}
 use Rattle.world_core.specs.Stands.{counts_of}
-use Rattle.world_core.specs.Output.{Said}
+use Rattle.world_core.specs.Output.{View}
 use Rattle.world_core.specs.declared.fault.Fault.{Fault}
 use Rattle.world_core.specs.declared.fault.Fault.TheVariants.{NoMemory}
 use Rattle.world_core.specs.declared.fault.TapesFault.{TapesFault}
@@ -37,7 +37,7 @@ pub record IsBegun (peers : List GivenPeer) (life : Life) : Type 0 where
 pub record WasTaken (script : Script) (printed : List ℕ) : Type 0 where
   pub begun : Life
   pub begins : IsBegun script.peers.items begun
-  pub lines : List (List Said)
+  pub lines : List (List View)
   pub later : Life
   pub runs : Runs begun script.steps.items lines later
   pub prints : printed
@@ -52,7 +52,7 @@ pub record WasRefused (script : Script) (printed : List ℕ) (line : ℕ) (fault
   pub step : Step
   pub here : slice_get script.steps.items index ≡ Some step
   pub said : slice_get script.lines.items index ≡ Some line
-  pub lines : List (List Said)
+  pub lines : List (List View)
   pub mid : Life
   pub runs : Runs begun (take index script.steps.items) lines mid
   pub later : Life

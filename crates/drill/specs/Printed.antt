@@ -3,15 +3,15 @@ use Rattle.std.specs.Prelude.{ℕ, List, [], ◌∷◌, ◌++◌, codes, decimal
 use Rattle.ledger_core.specs.declared.ledger.Totals.{Totals}
 use Rattle.world_core.specs.Fault.{fault_name}
 use Rattle.world_core.specs.Lines.{line_text}
-use Rattle.world_core.specs.Output.{Said}
+use Rattle.world_core.specs.Output.{View}
 use Rattle.world_core.specs.declared.fault.Fault.{Fault}
 
 -- what a step outputs, a line each
-abbrev pub step_text : List Said → List ℕ
+abbrev pub step_text : List View → List ℕ
 step_text said = flat_map line_text said
 
 -- what steps output, one after another
-abbrev pub steps_text : List (List Said) → List ℕ
+abbrev pub steps_text : List (List View) → List ℕ
 steps_text lines = flat_map step_text lines
 
 -- a peer's counts, by its name

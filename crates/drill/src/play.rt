@@ -4,7 +4,7 @@ ghost use Rattle.std.specs.List.{IsDistinct};
 ghost use Rattle.std.specs.Str.{bytes_eq};
 ghost use Rattle.world_core.specs.Given.{given_names};
 ghost use Rattle.world_core.specs.Stands.{counts_in};
-ghost use Rattle.world_core.specs.Output.{said_by};
+ghost use Rattle.world_core.specs.Output.{views_by};
 ghost use Rattle.drill.specs.Drill.{IsDrill, IsPlayed, ending_without, line_of};
 ghost use Rattle.drill.specs.Printed.{end_text, refused_text, steps_text, totals_text};
 
@@ -80,7 +80,7 @@ fn not_begun(alloc: Global, fault: TapesFault) -> Played
 
 fn done(alloc: Global, report: &Report, steps: usize) -> Result<Played, AllocError>
     ensures prints { IfOk result (λ played. played.printed.items
-        ≡ steps_text (said_by report.now.lines.items)
+        ≡ steps_text (views_by report.now.lines.items)
         ++ (flat_map totals_text (counts_in report.now.totals.items) ++ end_text steps)) }
     ensures ends { IfOk result (λ played. played.ending ≡ Ending.Done) }
 {
@@ -96,7 +96,7 @@ fn done(alloc: Global, report: &Report, steps: usize) -> Result<Played, AllocErr
 
 fn refused(alloc: Global, lines: &[usize], fault: &WorldFault) -> Result<Played, AllocError>
     ensures prints { IfOk result (λ played. played.printed.items
-        ≡ steps_text (said_by fault.now.lines.items)
+        ≡ steps_text (views_by fault.now.lines.items)
         ++ refused_text fault.now.step fault.now.kind) }
     ensures no_memory { fault.now.kind ≡ Fault.NoMemory
         → IfOk result (λ played. played.ending ≡ Ending.NoMemory) }

@@ -1,7 +1,7 @@
 // The lines that a drill prints (docs/FORMATS.md).
 ghost use Rattle.std.specs.Prelude.{◌≡◌, ◌++◌, OnOk, decimal as digits_of, flat_map, map};
 ghost use Rattle.world_core.specs.Stands.{counts_in};
-ghost use Rattle.world_core.specs.Output.{said_by, said_of};
+ghost use Rattle.world_core.specs.Output.{views_by, view_of};
 ghost use Rattle.drill.specs.Printed.{broken_text, end_text, refused_text, step_text, steps_text};
 ghost use Rattle.drill.specs.Printed.{totals_text};
 
@@ -10,7 +10,7 @@ use std::alloc::AllocError;
 use world_core::{Fault, Output, PeerTotals};
 
 pub fn add_steps(out: &mut Vec<u8>, lines: &[Vec<Output>]) -> Result<(), AllocError>
-    ensures { OnOk result (out.new.items ≡ out.old.items ++ steps_text (said_by lines.now)) }
+    ensures { OnOk result (out.new.items ≡ out.old.items ++ steps_text (views_by lines.now)) }
 {
     for step in lines {
         add_step(out, step)?;
@@ -19,7 +19,7 @@ pub fn add_steps(out: &mut Vec<u8>, lines: &[Vec<Output>]) -> Result<(), AllocEr
 }
 
 fn add_step(out: &mut Vec<u8>, step: &[Output]) -> Result<(), AllocError>
-    ensures { OnOk result (out.new.items ≡ out.old.items ++ step_text (map said_of step.now)) }
+    ensures { OnOk result (out.new.items ≡ out.old.items ++ step_text (map view_of step.now)) }
 {
     let alloc = *out.allocator();
     for outputs in step {

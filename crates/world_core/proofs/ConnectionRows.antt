@@ -17,7 +17,7 @@ use Rattle.peer_queue.specs.declared.settled.Settled.TheVariants.{Answered, Drop
 use Rattle.recovery.specs.Notes.{begun as begun_history}
 use Rattle.world_core.specs.Past.{ConnPast, Life, Past, TapePast}
 use Rattle.world_core.specs.Events.{Settles}
-use Rattle.world_core.specs.Exchange.{TakesConnect, exchange_said, followed_up, fresh_conn, settled_out, unsettled}
+use Rattle.world_core.specs.Exchange.{TakesConnect, exchange_views, followed_up, fresh_conn, settled_out, unsettled}
 use Rattle.world_core.specs.Exchange.{waiting, with_transcript}
 use Rattle.world_core.specs.ExchangeLaws.{settle_events}
 use Rattle.world_core.specs.Halts.{armed_with}
@@ -26,7 +26,7 @@ use Rattle.world_core.specs.Runs.Runs.{Next, Start}
 use Rattle.world_core.specs.Safe.{IsSafe}
 use Rattle.world_core.specs.Sound.{IsSoundLife}
 use Rattle.world_core.specs.Steps.{begun_at}
-use Rattle.world_core.specs.Output.{Closed, Connected, Need, SentLine, Said, Settled}
+use Rattle.world_core.specs.Output.{Closed, Connected, Need, SentLine, View, Settled}
 use Rattle.world_core.specs.declared.fault.Fault.TheVariants.{NoConnection, NoPeer}
 use Rattle.world_core.specs.declared.step.Step.TheVariants.{Begin, Connect, Hand, Stop}
 
@@ -50,8 +50,8 @@ abbrev cxn : List Happening → ConnPast
 cxn h = record { rank = 2; unread = []; transcript = h; settled = 0 }
 
 -- what is reported of it, if its transcript was the first before the step and is the second after it
-abbrev outputs : List Happening → List Happening → List Said
-outputs was h = exchange_said limits options 1 60 was (cxn h)
+abbrev outputs : List Happening → List Happening → List View
+outputs was h = exchange_views limits options 1 60 was (cxn h)
 
 -- its transcript once its outcomes have gone to the peer and its output counts as sent
 abbrev sent : List Happening → List Happening
@@ -145,7 +145,7 @@ defer_tells : outputs checked (outside options checked (about 431)) ≡ Settled 
 unfolding after story
 defer_tells = refl
 
-drop_tells : exchange_said (record limits { drop_deferred = true }) options 1 60 checked
+drop_tells : exchange_views (record limits { drop_deferred = true }) options 1 60 checked
     (cxn (outside options checked (about 431))) ≡ Settled 1 7 (Dropped PutOff) ∷ []
 unfolding after story
 drop_tells = refl
@@ -169,7 +169,7 @@ timeout_tells = refl
 abbrev closed : ConnPast
 closed = followed_up options (cxn (outside options checked Broke))
 
-closed_tells : exchange_said limits options 1 60 closed.transcript
+closed_tells : exchange_views limits options 1 60 closed.transcript
     (with_transcript closed (outside options closed.transcript (about 238))) ≡ []
 unfolding after story
 closed_tells = refl

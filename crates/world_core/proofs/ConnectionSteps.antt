@@ -9,7 +9,7 @@ use Rattle.world_core.specs.Exchange.{FailsToTick, IsConn, OnPair, PairStep, Ref
 use Rattle.world_core.specs.Exchange.{TicksOneNot, with_pair}
 use Rattle.world_core.specs.Joined.{AreRunning, FoundConn, MadeOn, RefusedOn}
 use Rattle.world_core.specs.Pairs.{PairMade, PairRefused, PairStands}
-use Rattle.world_core.specs.Output.{Said}
+use Rattle.world_core.specs.Output.{View}
 use Rattle.world_core.specs.declared.connection.Connection.{Connection}
 use Rattle.world_core.specs.declared.fault.Fault.{Fault}
 use Rattle.world_core.specs.declared.peer.Peer.{Peer}
@@ -104,7 +104,7 @@ module _ {D : Type 0} {g : Ghosts D} where
         later_conn later pair put.same put.put_c keeps.0 keeps.1
 
     -- what is shown of a `hand`, which may accept a debt, holds of any step
-    pub made_pair : (T : PairStep (List Said)) → Goes (Hand id) id T → (before outputs : List Output)
+    pub made_pair : (T : PairStep (List View)) → Goes (Hand id) id T → (before outputs : List Output)
         → PairMade (T id moment conn peer) id before new_c now outputs
         → MadeOn (OnPair T id) life.connected life before outputs new new_cs
     made_pair T goes before outputs made = record {

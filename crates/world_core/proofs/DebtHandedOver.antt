@@ -28,7 +28,7 @@ use Rattle.world_core.specs.Fault.{fault_of_station}
 use Rattle.world_core.specs.Pairs.{Followed, FollowedNot, HandedNot, HandedOver, PairMade, PairRefused, PairStands}
 use Rattle.world_core.specs.Sound.{numbers_at}
 use Rattle.world_core.specs.Stands.{HoldsTranscript, PeerStands, TapeStands, WaitsWith}
-use Rattle.world_core.specs.Output.{Handed as SaidHanded, Said, said_of}
+use Rattle.world_core.specs.Output.{Handed as SaidHanded, View, view_of}
 use Rattle.world_core.specs.declared.connection.Connection.{Connection}
 use Rattle.world_core.specs.declared.fault.Fault.{Fault}
 use Rattle.world_core.specs.declared.fault.Fault.TheVariants.{NoMemory as NoStepMemory, Tape as TapeRefusal}
@@ -109,13 +109,13 @@ module _ {D : Type 0} {g : Ghosts D} where
       tied = record { held = pair.tied.held; once = pair.tied.once };
     }
 
-    refused_claim : (fault : StationFault) (outputs : Fault) → outputs ≡ fault_of_station fault
+    refused_claim : (fault : StationFault) (refusal : Fault) → refusal ≡ fault_of_station fault
         → ((fault ≡ Broken) ↔ IsBroken (tape_of old.station))
         → (fault ≢ Broken → IsSome (least_candidate now (places_of old.station)))
         → (fault ≡ TapeRefused Disk → OneHasRisen (faults_of (tape_of old.station)) (faults_of (tape_of new.station)))
         → IsClaimFault fault
-        → RefusesClaim now past outputs tape_read
-    refused_claim fault outputs e broken some cause kind = (
+        → RefusesClaim now past refusal tape_read
+    refused_claim fault refusal e broken some cause kind = (
       why fault e broken some cause kind,
       (read_tape past.tape (tape_of old.station) (tape_of new.station) pair.stands.tape reads.tape).0,
     )
@@ -125,13 +125,13 @@ module _ {D : Type 0} {g : Ghosts D} where
         there f not s = some_there (least_candidate now past.places)
             (subst (λ (p : Places). IsSome (least_candidate now p)) pair.stands.places (s not))
 
-        why : (f : StationFault) → outputs ≡ fault_of_station f → ((f ≡ Broken) ↔ IsBroken (tape_of old.station))
+        why : (f : StationFault) → refusal ≡ fault_of_station f → ((f ≡ Broken) ↔ IsBroken (tape_of old.station))
             → (f ≢ Broken → IsSome (least_candidate now (places_of old.station)))
             → (f ≡ TapeRefused Disk → OneHasRisen (faults_of (tape_of old.station)) (faults_of (tape_of new.station)))
             → IsClaimFault f
-            → ((outputs ≡ TapeRefusal BrokenTape) × (past.tape.broken ≡ true))
+            → ((refusal ≡ TapeRefusal BrokenTape) × (past.tape.broken ≡ true))
             ⊎ ((past.tape.broken ≡ false) × ((number : ℕ) × (least_candidate now past.places ≡ Some number))
-            × ((outputs ≡ NoStepMemory) ⊎ ((outputs ≡ TapeRefusal Disk)
+            × ((refusal ≡ NoStepMemory) ⊎ ((refusal ≡ TapeRefusal Disk)
             × OneHasRisen past.tape.faults tape_read.faults)))
         why NotHeld e b s c k = absurd k
         why Broken e b s c k = inl (e, tape_broken past.tape (tape_of old.station) pair.stands.tape (b.0 refl))
@@ -153,15 +153,15 @@ module _ {D : Type 0} {g : Ghosts D} where
           inl e,
         )
 
-    pub claim_refused : (fault : StationFault) (outputs : Fault) → outputs ≡ fault_of_station fault
+    pub claim_refused : (fault : StationFault) (refusal : Fault) → refusal ≡ fault_of_station fault
         → ((fault ≡ Broken) ↔ IsBroken (tape_of old.station))
         → (fault ≢ Broken → IsSome (least_candidate now (places_of old.station)))
         → (fault ≡ TapeRefused Disk → OneHasRisen (faults_of (tape_of old.station)) (faults_of (tape_of new.station)))
         → IsClaimFault fault
-        → places_of new.station ≡ places_of old.station → HandedNot id now conn past outputs connection new
-    claim_refused fault outputs e broken some cause kind places = record {
+        → places_of new.station ≡ places_of old.station → HandedNot id now conn past refusal connection new
+    claim_refused fault refusal e broken some cause kind places = record {
       later = with_tape past tape_read;
-      why = inl (tape_read, refused_claim fault outputs e broken some cause kind, refl);
+      why = inl (tape_read, refused_claim fault refusal e broken some cause kind, refl);
       stand = pair_read places;
     }
 
@@ -333,10 +333,10 @@ module _ {D : Type 0} {g : Ghosts D} where
               stand = pair_back;
             }
 
-        pub gave_back_memory : (outputs : Fault) → outputs ≡ NoStepMemory
+        pub gave_back_memory : (refusal : Fault) → refusal ≡ NoStepMemory
             → ready_of (options_of past.conf) conn.transcript ≡ Yes
-            → HandedNot id now conn past outputs new_c last
-        gave_back_memory outputs e ready =
+            → HandedNot id now conn past refusal new_c last
+        gave_back_memory refusal e ready =
             record { later = returned; why = inr (e, ready, (debt, gives_back)); stand = pair_back }
 
 -- what is reported if there is none, and if there is one
@@ -370,10 +370,10 @@ module _ {D : Type 0} {g : Ghosts D} (id now : ℕ) (conn : ConnPast) (past : Pe
   hand_memory fault c peer is pair =
       record { later_conn = conn; later = past; refuses = inl (is, refl, refl); stand = pair }
 
-  pub hand_not : (fault outputs : Fault) (c : Connection) (peer : Peer D g) → outputs ≡ fault
+  pub hand_not : (fault refusal : Fault) (c : Connection) (peer : Peer D g) → refusal ≡ fault
       → HandedNot id now conn past fault c peer
-      → PairRefused (FailsToHand id now conn past outputs) id c peer
-  hand_not fault outputs c peer same is =
+      → PairRefused (FailsToHand id now conn past refusal) id c peer
+  hand_not fault refusal c peer same is =
       subst (λ (f : Fault). PairRefused (FailsToHand id now conn past f) id c peer) (sym same)
       (record { later_conn = conn; later = is.later; refuses = inr (inl (is.why, refl)); stand = is.stand })
 
@@ -408,7 +408,7 @@ module _ {D : Type 0} {g : Ghosts D} (id now : ℕ) (conn : ConnPast) (past : Pe
       };
       outputs_are = tells_both before mid outputs (SaidHanded id handed ∷ []) followed.said
           (tells_push before before mid (OutputHanded cxn what) refl is
-          ∙ ap (λ (said : Said). map said_of before ++ said ∷ [])
+          ∙ ap (λ (said : View). map view_of before ++ said ∷ [])
           (ap (λ (n : ℕ). SaidHanded n what) (own ∙ over.stand.id_is) ∙ ap (λ (h : Handover). SaidHanded id h) same))
           followed.outputs_are;
       stand = followed.stand;

@@ -24,7 +24,7 @@ use Rattle.world_core.specs.Runs.{Does as DoesStep, Refuses as RefusesAny, Refus
 use Rattle.world_core.specs.Steps.{Good, NotGood, Reading, RefusesFlushing, RefusesImport, RefusesLine, RefusesNamed}
 use Rattle.world_core.specs.Steps.{RefusesPart, RefusesRotation, RefusesSeal, RefusesShed, RefusesTelling, TakesReading}
 use Rattle.world_core.specs.Steps.{begun_at, flush_events, is_named, owes_from}
-use Rattle.world_core.specs.Output.{Said}
+use Rattle.world_core.specs.Output.{View}
 use Rattle.recovery.specs.declared.fault.TapeFault.TheVariants.{Disk}
 use Rattle.world_core.specs.declared.fault.Fault.{Fault}
 use Rattle.world_core.specs.declared.fault.Fault.TheVariants.{Tape}
@@ -139,7 +139,7 @@ on_quiet T id goes life reports later t =
     ∙ quiet_put life.past (with_peer life.past t.conn.rank t.later_peer) t.conn.rank t.peer t.later_peer t.is.peer_is
     refl (keeps_pair (Hand id) id life.now t.conn t.peer t.later_conn t.later_peer went).0.log
 
-ticked_quiet : (begun : Life) (count : ℕ) (outputs : List Said) (later : Life) → TicksEach begun count outputs later
+ticked_quiet : (begun : Life) (count : ℕ) (outputs : List View) (later : Life) → TicksEach begun count outputs later
     → logs later.past ≡ logs begun.past
 ticked_quiet begun _ _ _ NoneTicked = refl
 ticked_quiet begun _ _ _ (OneTicked count outputs more mid later before (id, at, t)) =
@@ -151,7 +151,7 @@ begun_quiet : (peers : List PeerPast)
 begun_quiet [] = refl
 begun_quiet (peer ∷ peers) = ap (λ l. peer.tape.log ∷ l) (begun_quiet peers)
 
-reading_quiet : (reading : Reading) (past later : Past) (outputs : List Said) → TakesReading reading past outputs later
+reading_quiet : (reading : Reading) (past later : Past) (outputs : List View) → TakesReading reading past outputs later
     → logs later ≡ logs past
 reading_quiet (Good token id named) past later outputs (said, (mid, does, changed)) =
     ap logs changed ∙ all_quiet past mid _ does (owes_quiet 0 token id named past.peers)
@@ -270,14 +270,14 @@ met step life stop under_way m = at_end step life m.mid under_way (record {
 
 -- ---- a step that is taken
 
-stop_at : (peer : Option (List ℕ)) (call : ℕ) (choice : Choice) (step : Step) (life : Life) (outputs : List Said)
+stop_at : (peer : Option (List ℕ)) (call : ℕ) (choice : Choice) (step : Step) (life : Life) (outputs : List View)
     (later : Life) → TakesStop peer call choice life outputs later → AtEnd step life later.past
 stop_at peer zero choice step life outputs later (runs, said, changed) =
     stopped step life AtRest life.past later changed (at_first step life)
 stop_at peer (suc calls) choice step life outputs later (rank, is, said, changed) =
     quiet step life later (past_of later _ changed)
 
-does_at : (step : Step) (life : Life) (outputs : List Said) (later : Life) → DoesStep step life outputs later
+does_at : (step : Step) (life : Life) (outputs : List View) (later : Life) → DoesStep step life outputs later
     → AtEnd step life later.past
 does_at (Line text) life outputs later (runs, (past, t, changed)) =
     quiet (Line text) life later (past_of later _ changed ∙ reading_quiet t.reading life.past past outputs t.takes)
@@ -319,7 +319,7 @@ does_at Restart life outputs later t =
     (λ rank log has. inl (at_all Restart life life.past (restart_events life.past) (t.stopped, refl, refl) t.past
     t.opens rank log has))
 
-takes_at : (step : Step) (life : Life) (outputs : List Said) (later : Life) → Takes step life outputs later
+takes_at : (step : Step) (life : Life) (outputs : List View) (later : Life) → Takes step life outputs later
     → AtEnd step life later.past
 takes_at step life outputs later (inl does) = does_at step life outputs later does
 takes_at step life outputs later (inr s) =

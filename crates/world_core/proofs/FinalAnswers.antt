@@ -41,7 +41,7 @@ use Rattle.world_core.specs.Laws.Comes.{No_step, Step_taken, Step_refused}
 use Rattle.world_core.specs.Runs.{RefusesStep, Takes}
 use Rattle.world_core.specs.Safe.{IsSafe}
 use Rattle.world_core.specs.Sound.{IsSoundConn, IsSoundLife}
-use Rattle.world_core.specs.Output.{Said}
+use Rattle.world_core.specs.Output.{View}
 use Rattle.world_core.specs.declared.fault.Fault.{Fault}
 use Rattle.world_core.specs.declared.step.Step.{Step}
 use Rattle.world_core.specs.declared.step.Step.TheVariants.{Hand, Tick}
@@ -776,23 +776,23 @@ module _ (law : VerdictsAreRight) (own : EndsAreOwn) where
       }
 
   -- the step was taken, and reported this, or was refused, and reported nothing
-  abbrev IsNext : Step → Life → List (List Said) → Life → Type 0
+  abbrev IsNext : Step → Life → List (List View) → Life → Type 0
   IsNext step life more later =
-      ((outputs : List Said) × (more ≡ outputs ∷ []) × Takes step life outputs later)
+      ((outputs : List View) × (more ≡ outputs ∷ []) × Takes step life outputs later)
       ⊎ ((fault : Fault) × (more ≡ []) × RefusesStep step life fault later)
 
-  comes_next : (begun : Life) (steps : List Step) (step : Step) (lines more : List (List Said)) (mid later : Life)
+  comes_next : (begun : Life) (steps : List Step) (step : Step) (lines more : List (List View)) (mid later : Life)
       → Comes begun steps lines mid → IsNext step mid more later → IsSafe later.past → IsSoundLife later
       → Comes begun (steps ++ step ∷ []) (lines ++ more) later
   comes_next begun steps step lines more mid later comes (inl (outputs, is, takes)) safe sound =
-      subst (λ (l : List (List Said)). Comes begun (steps ++ step ∷ []) (lines ++ l) later) (sym is)
+      subst (λ (l : List (List View)). Comes begun (steps ++ step ∷ []) (lines ++ l) later) (sym is)
       (Step_taken steps step lines outputs mid later comes takes safe sound)
   comes_next begun steps step lines more mid later comes (inr (fault, is, refuses)) safe sound =
-      subst (λ (l : List (List Said)). Comes begun (steps ++ step ∷ []) (lines ++ l) later) (sym is)
-      (subst (λ (l : List (List Said)). Comes begun (steps ++ step ∷ []) l later) (sym (append-nil lines))
+      subst (λ (l : List (List View)). Comes begun (steps ++ step ∷ []) (lines ++ l) later) (sym is)
+      (subst (λ (l : List (List View)). Comes begun (steps ++ step ∷ []) l later) (sym (append-nil lines))
       (Step_refused steps step lines fault mid later comes refuses safe sound))
 
-  abbrev passes_last : (begun : Life) (steps : List Step) (lines : List (List Said)) (later : Life)
+  abbrev passes_last : (begun : Life) (steps : List Step) (lines : List (List View)) (later : Life)
       → Comes begun steps lines later → Passes begun steps lines later later
   passes_last begun steps lines later comes = record {
     first = steps;
@@ -805,8 +805,8 @@ module _ (law : VerdictsAreRight) (own : EndsAreOwn) where
     went_on = No_step (comes_safe begun steps lines later comes) (comes_sound begun steps lines later comes);
   }
 
-  abbrev passes_on : (begun : Life) (steps : List Step) (lines : List (List Said)) (mid : Life) (step : Step)
-      (more : List (List Said)) (later life : Life)
+  abbrev passes_on : (begun : Life) (steps : List Step) (lines : List (List View)) (mid : Life) (step : Step)
+      (more : List (List View)) (later life : Life)
       → IsNext step mid more later → IsSafe later.past → IsSoundLife later → Passes begun steps lines mid life
       → Passes begun (steps ++ step ∷ []) (lines ++ more) later life
   passes_on begun steps lines mid step more later life next safe sound p = record {
@@ -815,27 +815,27 @@ module _ (law : VerdictsAreRight) (own : EndsAreOwn) where
     first_lines = p.first_lines;
     other_lines = p.other_lines ++ more;
     steps_are = ap (λ (l : List Step). l ++ step ∷ []) p.steps_are ∙ append_assoc p.first p.others (step ∷ []);
-    lines_are = ap (λ (l : List (List Said)). l ++ more) p.lines_are ∙ append_assoc p.first_lines p.other_lines more;
+    lines_are = ap (λ (l : List (List View)). l ++ more) p.lines_are ∙ append_assoc p.first_lines p.other_lines more;
     made = p.made;
     went_on = comes_next life p.others step p.other_lines more mid later p.went_on next safe sound;
   }
 
   -- which debts connections may have accepted
-  abbrev RunOwned : Life → List Step → List (List Said) → Life → Owned
+  abbrev RunOwned : Life → List Step → List (List View) → Life → Owned
   RunOwned begun steps lines later rank id debt =
       WasTaken begun steps lines later rank id debt ⊎ WasAccepted begun rank id debt
 
-  record RunRight (begun : Life) (steps : List Step) (lines : List (List Said)) (later : Life) : Type 0 where
+  record RunRight (begun : Life) (steps : List Step) (lines : List (List View)) (later : Life) : Type 0 where
     right : AllRightly (HasVerdict begun steps lines later) begun.past.peers later.past.peers
     owned : AllOwned (RunOwned begun steps lines later) later.conns
 
-  module _ (begun : Life) (steps : List Step) (step : Step) (lines more : List (List Said)) (life later : Life)
+  module _ (begun : Life) (steps : List Step) (step : Step) (lines more : List (List View)) (life later : Life)
       (comes : Comes begun steps lines life) (one : IsNext step life more later) (safe : IsSafe later.past)
       (sound : IsSoundLife later) where
     abbrev all_steps : List Step
     all_steps = steps ++ step ∷ []
 
-    abbrev all_lines : List (List Said)
+    abbrev all_lines : List (List View)
     all_lines = lines ++ more
 
     abbrev passes_here : (at : Life) → Passes begun steps lines life at → Passes begun all_steps all_lines later at
@@ -921,7 +921,7 @@ module _ (law : VerdictsAreRight) (own : EndsAreOwn) where
           owned = now.owned;
         }
 
-  comes_right : (begun : Life) (steps : List Step) (lines : List (List Said)) (later : Life)
+  comes_right : (begun : Life) (steps : List Step) (lines : List (List View)) (later : Life)
       → Comes begun steps lines later
       → RunRight begun steps lines later
   comes_right begun _ _ _ (No_step safe sound) =
@@ -934,7 +934,7 @@ module _ (law : VerdictsAreRight) (own : EndsAreOwn) where
       run_goes begun steps step lines (outputs ∷ []) life later comes (inl (outputs, refl, takes)) safe sound
       (comes_right begun steps lines life comes)
   comes_right begun _ _ _ (Step_refused steps step lines fault life later comes refuses safe sound) =
-      subst (λ (l : List (List Said)). RunRight begun (steps ++ step ∷ []) l later) (append-nil lines)
+      subst (λ (l : List (List View)). RunRight begun (steps ++ step ∷ []) l later) (append-nil lines)
       (run_goes begun steps step lines [] life later comes (inr (fault, refl, refuses)) safe sound
       (comes_right begun steps lines life comes))
 

@@ -35,7 +35,7 @@ use Rattle.world_core.specs.Stepped.{Did, Failed, Took, TookNot}
 use Rattle.world_core.specs.Safe.{KeepsNotes}
 use Rattle.world_core.specs.Steps.{RefusesImport, TakesImport}
 use Rattle.world_core.specs.Tapes.{RefusesClose, RefusesFlush, RefusesNote, RefusesOwe}
-use Rattle.world_core.specs.Output.{Imported as SaidImported, said_of}
+use Rattle.world_core.specs.Output.{Imported as SaidImported, view_of}
 use Rattle.world_core.specs.declared.fault.Fault.{Fault}
 use Rattle.world_core.specs.declared.fault.Fault.TheVariants.{NoMemory, NoPeer, Tape}
 use Rattle.world_core.specs.declared.peer.Peer.{Peer}
@@ -672,7 +672,7 @@ module _ (name text : List ℕ) (past : Past) (rank : ℕ) (named : rank_of past
               import_events rank pending_here mark_here lines,
               is_import,
               whole.does,
-              ap (map said_of) tells ∙ ap (λ (n : List ℕ). SaidImported n closed count ∷ []) is
+              ap (map view_of) tells ∙ ap (λ (n : List ℕ). SaidImported n closed count ∷ []) is
                   ∙ ap (λ (k : ℕ). SaidImported name k count ∷ []) closed_so.0
                   ∙ ap (λ (k : ℕ). SaidImported name source_here k ∷ []) counted,
             );

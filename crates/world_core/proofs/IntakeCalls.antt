@@ -62,15 +62,15 @@ module _ {D : Type 0} {g : Ghosts D} where
     same_there same = subst (λ (t : Tape D g). TapeStands past t) (sym same) stands
 
     -- a flush of the tape alone was refused
-    tape_unflushed : (fault : TapeFault) (outputs : Fault) → outputs ≡ fault_of fault → ((fault
+    tape_unflushed : (fault : TapeFault) (refusal : Fault) → refusal ≡ fault_of fault → ((fault
         ≡ Broken) ↔ IsBroken old)
         → ((fault ≡ TapeFull) ↔ ((IsBroken old → ⊥) × IsFull old)) → (pending_of old ≡ 0 → (IsBroken old → ⊥) → ⊥)
         → IsFlushFault fault
         → (fault ≢ Disk → new ≡ old) → (fault ≡ Disk → IsBroken new)
         → (fault ≡ Disk → OneHasRisen (faults_of old) (faults_of new))
-        → FlushedNot P past outputs new
-    tape_unflushed (Damaged segment at) outputs e broken full idle kind same breaks cause = absurd kind
-    tape_unflushed Disk outputs e broken full idle kind same breaks cause =
+        → FlushedNot P past refusal new
+    tape_unflushed (Damaged segment at) refusal e broken full idle kind same breaks cause = absurd kind
+    tape_unflushed Disk refusal e broken full idle kind same breaks cause =
         let works : IsBroken old → ⊥ = λ b. let never : Disk ≡ Broken = broken.1 b in cc in
         let done = broke_as lies P past old new stands moments works (breaks refl) (cause refl) is in
         record {
@@ -82,12 +82,12 @@ module _ {D : Type 0} {g : Ghosts D} where
           )));
           stands = done.1;
         }
-    tape_unflushed Broken outputs e broken full idle kind same breaks cause = record {
+    tape_unflushed Broken refusal e broken full idle kind same breaks cause = record {
       later = past;
       refused = inl (e, tape_broken past old stands (broken.0 refl), refl);
       stands = same_there (same (λ never. cc));
     }
-    tape_unflushed TapeFull outputs e broken full idle kind same breaks cause =
+    tape_unflushed TapeFull refusal e broken full idle kind same breaks cause =
         let works : IsBroken old → ⊥ = λ b. let never : TapeFull ≡ Broken = broken.1 b in cc in
         record {
           later = past;
@@ -99,9 +99,9 @@ module _ {D : Type 0} {g : Ghosts D} where
           ));
           stands = same_there (same (λ never. cc));
         }
-    tape_unflushed GenerationFull outputs e broken full idle kind same breaks cause = absurd kind
-    tape_unflushed PendingFull outputs e broken full idle kind same breaks cause = absurd kind
-    tape_unflushed NoMemory outputs e broken full idle kind same breaks cause =
+    tape_unflushed GenerationFull refusal e broken full idle kind same breaks cause = absurd kind
+    tape_unflushed PendingFull refusal e broken full idle kind same breaks cause = absurd kind
+    tape_unflushed NoMemory refusal e broken full idle kind same breaks cause =
         let works : IsBroken old → ⊥ = λ b. let never : NoMemory ≡ Broken = broken.1 b in cc in
         record {
           later = past;
@@ -113,7 +113,7 @@ module _ {D : Type 0} {g : Ghosts D} where
           )));
           stands = same_there (same (λ never. cc));
         }
-    tape_unflushed (Note fault) outputs e broken full idle kind same breaks cause = absurd kind
+    tape_unflushed (Note fault) refusal e broken full idle kind same breaks cause = absurd kind
 
   module _ (lies : LiesLeft g) (old new : Stations D g) (past : Past) (tape : Tape D g) (stands : Stands old past)
       (same : WithIntake old new tape)
@@ -129,30 +129,30 @@ module _ {D : Type 0} {g : Ghosts D} where
         → (pending_of old.intake ≡ 0 → tape ≡ old.intake)
         → StandsFor tape (flushed past.intake.history) → faults_of tape ≡ faults_of old.intake
         → DidOne past Acknowledges new
-    did_acknowledge worked works fits idle is outputs =
+    did_acknowledge worked works fits idle is quiet =
         let done = flushed_as lies (KeepsLines past.intake.history past.peers) past.intake old.intake tape
-        stands.intake safe_moments worked works fits idle is outputs in
+        stands.intake safe_moments worked works fits idle is quiet in
         record {
           later = with_intake past _;
           does = record { tape = _; flushes = done.0; changed = refl };
           stands = stands_intake old new past tape _ stands same done.1 (sound_intake past _ stands.sound refl);
         }
 
-    pub failed_acknowledge : (fault : TapeFault) (outputs : Fault) → outputs ≡ fault_of fault
+    pub failed_acknowledge : (fault : TapeFault) (refusal : Fault) → refusal ≡ fault_of fault
         → ((fault ≡ Broken) ↔ IsBroken old.intake)
         → ((fault ≡ TapeFull) ↔ ((IsBroken old.intake → ⊥) × IsFull old.intake))
         → (pending_of old.intake ≡ 0 → (IsBroken old.intake → ⊥) → ⊥)
         → IsFlushFault fault → (fault ≢ Disk → tape ≡ old.intake) → (fault ≡ Disk → IsBroken tape)
         → (fault ≡ Disk → OneHasRisen (faults_of old.intake) (faults_of tape)) → StandsFor tape past.intake.history
-        → FailedOne past Acknowledges outputs new
-    failed_acknowledge fault outputs e broken full idle kind kept breaks cause is =
+        → FailedOne past Acknowledges refusal new
+    failed_acknowledge fault refusal e broken full idle kind kept breaks cause is =
         let done = tape_unflushed lies (KeepsLines past.intake.history past.peers) past.intake old.intake tape
-        stands.intake safe_moments is fault outputs e broken full idle kind kept breaks cause in
+        stands.intake safe_moments is fault refusal e broken full idle kind kept breaks cause in
         record {
           later = with_intake past done.later;
           refused = record { tape = done.later; refused = done.refused; changed = refl };
           stands = stands_intake old new past tape done.later stands same done.stands
               (sound_intake past done.later stands.sound
-              (ap mark_of (same_history (KeepsLines past.intake.history past.peers) past.intake outputs done.later
+              (ap mark_of (same_history (KeepsLines past.intake.history past.peers) past.intake refusal done.later
               done.refused)));
         }

@@ -93,25 +93,25 @@ module _ {D : Type 0} {g : Ghosts D} where
           (sound_noted past number stands.sound sealable));
     }
 
-    unseen : (fault : TapeFault) (outputs : Fault) → outputs ≡ fault_of fault → ((fault ≡ Broken) ↔ IsBroken old.intake)
+    unseen : (fault : TapeFault) (refusal : Fault) → refusal ≡ fault_of fault → ((fault ≡ Broken) ↔ IsBroken old.intake)
         → ((f : LedgerFault) → fault ≡ RefusedNote f → LedgerRefuses (ledger_of old.intake) (Seen number) f)
         → (fault ≡ PendingFull → pending_of old.intake ≡ most_pending)
         → (fault ≡ NoMemory → pending_of old.intake < most_pending)
-        → IsNoteFault fault → RefusesNote past.intake outputs
-    unseen (Damaged segment at) outputs e broken note full memory kind = absurd kind
-    unseen Disk outputs e broken note full memory kind = absurd kind
-    unseen Broken outputs e broken note full memory kind =
+        → IsNoteFault fault → RefusesNote past.intake refusal
+    unseen (Damaged segment at) refusal e broken note full memory kind = absurd kind
+    unseen Disk refusal e broken note full memory kind = absurd kind
+    unseen Broken refusal e broken note full memory kind =
         inl (e, tape_broken past.intake old.intake stands.intake (broken.0 refl))
-    unseen TapeFull outputs e broken note full memory kind = absurd kind
-    unseen GenerationFull outputs e broken note full memory kind = absurd kind
-    unseen PendingFull outputs e broken note full memory kind =
+    unseen TapeFull refusal e broken note full memory kind = absurd kind
+    unseen GenerationFull refusal e broken note full memory kind = absurd kind
+    unseen PendingFull refusal e broken note full memory kind =
         let works : IsBroken old.intake → ⊥ = λ b. let is : PendingFull ≡ Broken = broken.1 b in cc in
         inr (inl (
           e,
           tape_works past.intake old.intake stands.intake works,
           λ room. room (sym (pends_by old.intake past.intake.history stands.intake.stands works) ∙ full refl),
         ))
-    unseen NoMemory outputs e broken note full memory kind =
+    unseen NoMemory refusal e broken note full memory kind =
         let works : IsBroken old.intake → ⊥ = λ b. let is : NoMemory ≡ Broken = broken.1 b in cc in
         let few = memory refl in
         inr (inr (
@@ -119,26 +119,26 @@ module _ {D : Type 0} {g : Ghosts D} where
           tape_works past.intake old.intake stands.intake works,
           λ all. omega (arith, few, pends_by old.intake past.intake.history stands.intake.stands works, all),
         ))
-    unseen (RefusedNote OldNumber) outputs e broken note full memory kind =
+    unseen (RefusedNote OldNumber) refusal e broken note full memory kind =
         absurd (let low : number ≤ (ledger_of old.intake).mark = note OldNumber refl in omega (arith, low, above))
-    unseen (RefusedNote NotOwed) outputs e broken note full memory kind = absurd (note NotOwed refl)
-    unseen (RefusedNote CountFull) outputs e broken note full memory kind = absurd (note CountFull refl)
-    unseen (RefusedNote NoLedgerMemory) outputs e broken note full memory kind = absurd (note NoLedgerMemory refl)
+    unseen (RefusedNote NotOwed) refusal e broken note full memory kind = absurd (note NotOwed refl)
+    unseen (RefusedNote CountFull) refusal e broken note full memory kind = absurd (note CountFull refl)
+    unseen (RefusedNote NoLedgerMemory) refusal e broken note full memory kind = absurd (note NoLedgerMemory refl)
 
-    pub failed_see : (fault : TapeFault) (outputs : Fault) → outputs ≡ fault_of fault
+    pub failed_see : (fault : TapeFault) (refusal : Fault) → refusal ≡ fault_of fault
         → ((fault ≡ Broken) ↔ IsBroken old.intake)
         → ((f : LedgerFault) → fault ≡ RefusedNote f → LedgerRefuses (ledger_of old.intake) (Seen number) f)
         → (fault ≡ PendingFull → pending_of old.intake ≡ most_pending)
         → (fault ≡ NoMemory → pending_of old.intake < most_pending)
         → IsNoteFault fault → StandsFor tape past.intake.history → disks_of tape ≡ disks_of old.intake
         → (IsBroken old.intake ↔ IsBroken tape)
-        → FailedOne past (Sees number) outputs new
-    failed_see fault outputs e broken note full memory kind is disks works = record {
+        → FailedOne past (Sees number) refusal new
+    failed_see fault refusal e broken note full memory kind is disks works = record {
       later = past;
       refused = record {
         tape = past.intake;
         refused =
-            (rises, unseen fault outputs e broken note full memory kind, refl);
+            (rises, unseen fault refusal e broken note full memory kind, refl);
         changed = refl;
       };
       stands = stands_intake old new past tape past.intake stands same

@@ -22,7 +22,7 @@ use Rattle.world_core.specs.Moments.{StaysPrefix}
 use Rattle.world_core.specs.Runs.{Takes}
 use Rattle.world_core.specs.Safe.{IsSafe}
 use Rattle.world_core.specs.Steps.{Good, IsReading, NotGood, Reading, TakesReading, is_named, owed_there, owes_from}
-use Rattle.world_core.specs.Output.{Said}
+use Rattle.world_core.specs.Output.{View}
 use Rattle.world_core.specs.declared.step.Step.{Step}
 use Rattle.world_core.specs.declared.step.Step.TheVariants.{Line}
 use Rattle.world_core.proofs.AcknowledgedLines.{lines_stand}
@@ -48,7 +48,7 @@ stands xs x (i, below, is) = (i, slice_get-get_or xs i x below ∙ ap Some is)
 
 -- ---- an acknowledged line
 
-begun_safe : (begun later : Life) (steps : List Step) (lines : List (List Said)) → Comes begun steps lines later
+begun_safe : (begun later : Life) (steps : List Step) (lines : List (List View)) → Comes begun steps lines later
     → IsSafe begun.past
 begun_safe begun _ _ _ (No_step safe sound) = safe
 begun_safe begun _ _ _ (Step_taken steps step lines outputs life later comes takes safe sound) =
@@ -206,7 +206,7 @@ outputs_are number named (peer ∷ peers) =
     by false true is = is
     by false false is = is
 
-read_again : (life : Life) (outputs : List Said) (later : Life) (past : Past) (text : Vec ℕ)
+read_again : (life : Life) (outputs : List View) (later : Life) (past : Past) (text : Vec ℕ)
     → later ≡ with_past life past → (reading : Reading) → IsReading text.items reading
     → TakesReading reading life.past outputs past
     → WasRead (life.past.last + 1) text.items life outputs later ⊎ WasBad (life.past.last + 1) life outputs later
@@ -228,7 +228,7 @@ read_again life outputs later past text changed (NotGood fault) reads (said, is)
   changed = changed ∙ ap (with_past life) is;
 })
 
-took_line : (life later : Life) (outputs : List Said) (text : Vec ℕ) → Takes (Line text) life outputs later
+took_line : (life later : Life) (outputs : List View) (text : Vec ℕ) → Takes (Line text) life outputs later
     → WasRead (life.past.last + 1) text.items life outputs later ⊎ WasBad (life.past.last + 1) life outputs later
 took_line life later outputs text (inl (runs, (past, line, changed))) =
     read_again life outputs later past text changed line.reading line.reads line.takes

@@ -12,7 +12,7 @@ use Rattle.recovery.specs.declared.tape.Tape.{Tape}
 use Rattle.std.specs.Global.{Vec}
 use Rattle.world_core.specs.Past.{Past, with_last}
 use Rattle.world_core.specs.Steps.{Good, NotGood, RefusesLine, TakesLine, line_events, owed_there}
-use Rattle.world_core.specs.Output.{Bad as SaidBad, Owed as SaidOwed, said_of}
+use Rattle.world_core.specs.Output.{Bad as SaidBad, Owed as SaidOwed, view_of}
 use Rattle.world_core.specs.Stands.{PeerStands, Stands, TapeStands}
 use Rattle.world_core.specs.Stepped.{Failed, OwedLine, Took, TookNot}
 use Rattle.world_core.specs.declared.fault.Fault.{Fault}
@@ -74,7 +74,7 @@ module _ {D : Type 0} {g : Ghosts D} where
             reading = Good token id named;
             reads = reads;
             takes = (
-              ap (map said_of) tells ∙ ap (λ l. SaidOwed number l ∷ []) owed.outputs_are
+              ap (map view_of) tells ∙ ap (λ l. SaidOwed number l ∷ []) owed.outputs_are
                   ∙ ap (λ (n : ℕ). SaidOwed n (owed_there (past.last + 1) named past.peers) ∷ []) next,
               (owed.did.later, owed.did.does, refl),
             );
@@ -92,7 +92,7 @@ module _ {D : Type 0} {g : Ghosts D} where
         fits = omega (arith, next, fits);
         reading = NotGood fault;
         reads = (has, other);
-        takes = (ap (map said_of) tells ∙ ap (λ (n : ℕ). SaidBad n fault ∷ []) next, refl);
+        takes = (ap (map view_of) tells ∙ ap (λ (n : ℕ). SaidBad n fault ∷ []) next, refl);
       };
       stands = stands_last first new past number (past.last + 1) stands same next (omega arith)
           (omega (arith, next, fits));

@@ -6,7 +6,7 @@ use Rattle.world_core.specs.Past.{Life, Past, PeerPast, with_peer, with_tape}
 use Rattle.world_core.specs.Runs.{Runs}
 use Rattle.world_core.specs.Sound.{names_of}
 use Rattle.world_core.specs.Stands.{PeerStands, StageStands, StoppedStands, WorldStands}
-use Rattle.world_core.specs.Output.{Said}
+use Rattle.world_core.specs.Output.{View}
 use Rattle.world_core.specs.Turn.{names_at}
 use Rattle.world_core.specs.declared.peer.Peer.{Peer}
 use Rattle.world_core.specs.declared.peer.StoppedPeer.{StoppedPeer}
@@ -39,7 +39,7 @@ naming = record {
   keeps_begun = λ past. names_begun past.peers;
 }
 
-pub names_runs : (begun later : Life) (steps : List Step) (lines : List (List Said)) → Runs begun steps lines later
+pub names_runs : (begun later : Life) (steps : List Step) (lines : List (List View)) → Runs begun steps lines later
     → named later ≡ named begun
 names_runs begun later steps lines runs =
     runs_all naming (λ event. tt) (λ manner past. names_left manner past.peers)

@@ -29,7 +29,7 @@ use Rattle.world_core.specs.Fault.{fault_of_station}
 use Rattle.world_core.specs.Pairs.{IsTied, PairStands, SettledNot, SettledOne, TakesNext, Tells}
 use Rattle.world_core.specs.Sound.{numbers_at}
 use Rattle.world_core.specs.Stands.{HoldsTranscript, PeerStands, TapeStands, WaitsWith}
-use Rattle.world_core.specs.Output.{said_of}
+use Rattle.world_core.specs.Output.{view_of}
 use Rattle.world_core.specs.declared.connection.Connection.{Connection}
 use Rattle.world_core.specs.declared.fault.Fault.{Fault}
 use Rattle.world_core.specs.declared.peer.Peer.{Peer}
@@ -43,9 +43,9 @@ use Rattle.world_core.proofs.PeerCalls.{tape_broken, tape_works}
 -- ---- what is reported
 
 pub tells_push : (was mid outputs : List Output) (more : Output) → mid ≡ was → outputs ≡ mid ++ more ∷ []
-    → Tells was (said_of more ∷ []) outputs
+    → Tells was (view_of more ∷ []) outputs
 tells_push was mid outputs more same is =
-    ap (map said_of) (is ∙ ap (λ (l : List Output). l ++ more ∷ []) same) ∙ map_push said_of was more
+    ap (map view_of) (is ∙ ap (λ (l : List Output). l ++ more ∷ []) same) ∙ map_push view_of was more
 
 -- ---- the peer
 
@@ -171,7 +171,7 @@ module _ {D : Type 0} {g : Ghosts D} where
           changed = refl;
         };
         outputs_are = tells_push was mid outputs (OutputSettled cxn number said_so) same is
-            ∙ ap (λ said. map said_of was ++ said ∷ []) (rw (own, n_is, so, by) refl);
+            ∙ ap (λ said. map view_of was ++ said ∷ []) (rw (own, n_is, so, by) refl);
         stand = record {
           id_is = ap (λ i. i.0) same_id ∙ pair.id_is;
           rank = rank ∙ pair.rank;
@@ -189,17 +189,17 @@ module _ {D : Type 0} {g : Ghosts D} where
 
   -- ---- the outcome was refused
 
-  refused_end : (past : PeerPast) (old : Peer D g) (s : Settled) (fault : StationFault) (outputs : Fault)
+  refused_end : (past : PeerPast) (old : Peer D g) (s : Settled) (fault : StationFault) (refusal : Fault)
       → TapeStands past.tape (tape_of old.station)
-      → outputs ≡ fault_of_station fault → ((fault ≡ Broken) ↔ IsBroken (tape_of old.station)) → (fault ≡ NotHeld → ⊥)
+      → refusal ≡ fault_of_station fault → ((fault ≡ Broken) ↔ IsBroken (tape_of old.station)) → (fault ≡ NotHeld → ⊥)
       → (fault ≡ TapeRefused PendingFull → IsEnded s × (pending_of (tape_of old.station) ≡ most_pending))
       → ((IsBroken (tape_of old.station) → ⊥) → IsEnded s → pending_of (tape_of old.station) ≡ most_pending
       → fault ≡ TapeRefused PendingFull)
-      → (fault ≡ NoMemory → IsEnded s) → IsEndFault fault → RefusesEnd s past.tape outputs
-  refused_end past old s NotHeld outputs stands e broken held full never_full memory kind = absurd (held refl)
-  refused_end past old s Broken outputs stands e broken held full never_full memory kind =
+      → (fault ≡ NoMemory → IsEnded s) → IsEndFault fault → RefusesEnd s past.tape refusal
+  refused_end past old s NotHeld refusal stands e broken held full never_full memory kind = absurd (held refl)
+  refused_end past old s Broken refusal stands e broken held full never_full memory kind =
       inl (e, tape_broken past.tape (tape_of old.station) stands (broken.0 refl))
-  refused_end past old s (TapeRefused fault) outputs stands e broken held full never_full memory kind =
+  refused_end past old s (TapeRefused fault) refusal stands e broken held full never_full memory kind =
       let works : IsBroken (tape_of old.station) → ⊥ = λ b. let never : TapeRefused fault ≡ Broken = broken.1 b in cc in
       let is = full (ap TapeRefused kind) in
       inr (
@@ -210,7 +210,7 @@ module _ {D : Type 0} {g : Ghosts D} where
           no_room_here past.tape (tape_of old.station) stands works is.1,
         )),
       )
-  refused_end past old s NoMemory outputs stands e broken held full never_full memory kind =
+  refused_end past old s NoMemory refusal stands e broken held full never_full memory kind =
       let works : IsBroken (tape_of old.station) → ⊥ = λ b. let never : NoMemory ≡ Broken = broken.1 b in cc in
       inr (
         memory refl,
@@ -223,7 +223,7 @@ module _ {D : Type 0} {g : Ghosts D} where
       )
 
   pub settled_not : (id now : ℕ) (conn : ConnPast) (past : PeerPast) (before after : Connection) (old new : Peer D g)
-      (outcome back : Outcome) (cxn : ℕ) (fault : StationFault) (outputs : Fault) → PairStands id conn past before old
+      (outcome back : Outcome) (cxn : ℕ) (fault : StationFault) (refusal : Fault) → PairStands id conn past before old
       → TakesNext (options_of past.conf) conn (Some outcome) after
       → after.waiting ≡ Some back → back ≡ outcome → after.rank ≡ before.rank → after.conn.id ≡ before.conn.id
       → cxn ≡ id
@@ -233,10 +233,10 @@ module _ {D : Type 0} {g : Ghosts D} where
       → ((fault ≡ TapeRefused PendingFull) ↔ (IsEnded (settled_by (station_limits old.station) now outcome)
       × MeetsFull old.station cxn (key_in outcome)))
       → (fault ≡ NoMemory → IsEnded (settled_by (station_limits old.station) now outcome)) → IsEndFault fault
-      → outputs ≡ fault_of_station fault → IsSame old.station new.station → new.conf ≡ old.conf → new.parted
+      → refusal ≡ fault_of_station fault → IsSame old.station new.station → new.conf ≡ old.conf → new.parted
       ≡ old.parted
-      → SettledNot id now conn past outputs after new
-  settled_not id now conn past before after old new outcome back cxn fault outputs pair takes waits back_is rank same_id
+      → SettledNot id now conn past refusal after new
+  settled_not id now conn past before after old new outcome back cxn fault refusal pair takes waits back_is rank same_id
       own broken not_held full memory kind e same conf
       parts =
       let options = options_of past.conf in
@@ -257,7 +257,7 @@ module _ {D : Type 0} {g : Ghosts D} where
           outcome,
           unsettled options (one_out conn),
           next,
-          refused_end past old (settling past now outcome) fault outputs pair.stands.tape e broken
+          refused_end past old (settling past now outcome) fault refusal pair.stands.tape e broken
               (λ is. (not_held.0 is).1 held)
               (λ is. (subst IsEnded by (full.0 is).0, (full.0 is).1.2))
               (λ works ends most. full.1 (subst IsEnded (sym by) ends, (works, held, most)))

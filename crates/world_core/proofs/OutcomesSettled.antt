@@ -7,8 +7,8 @@ use Rattle.conn_core.specs.declared.outcome.Outcome.{Outcome}
 use Rattle.world_core.specs.Past.{ConnPast, PeerPast, options_of}
 use Rattle.world_core.specs.Exchange.{None_settled, One_settled, StopsAt, all_out, one_out, unsettled}
 use Rattle.world_core.specs.Pairs.{FollowedNot, PairMade, PairRefused, PairStands, SettledAll, SettledNone, SettledNot}
-use Rattle.world_core.specs.Pairs.{SettledOne, SettledSome, settled_said}
-use Rattle.world_core.specs.Output.{Said, said_of}
+use Rattle.world_core.specs.Pairs.{SettledOne, SettledSome, settled_view}
+use Rattle.world_core.specs.Output.{View, view_of}
 use Rattle.world_core.specs.declared.connection.Connection.{Connection}
 use Rattle.world_core.specs.declared.fault.Fault.{Fault}
 use Rattle.world_core.specs.declared.peer.Peer.{Peer}
@@ -22,11 +22,11 @@ out_more (o ∷ done) outcome conn = out_more done outcome (one_out conn)
 
 -- what is reported of an outcome depends only on its peer's settings
 said_same : (id now : ℕ) (one other : PeerPast) (outcome : Outcome) → one.conf ≡ other.conf
-    → settled_said id now one outcome ≡ settled_said id now other outcome
+    → settled_view id now one outcome ≡ settled_view id now other outcome
 said_same id now one other outcome same = ap (λ (c : PeerConf). said_at c) same
   where
-    said_at : PeerConf → Said
-    said_at c = settled_said id now (record other { conf = c }) outcome
+    said_at : PeerConf → View
+    said_at c = settled_view id now (record other { conf = c }) outcome
 
 module _ {D : Type 0} {g : Ghosts D} where
   pub settled_start : (id now : ℕ) (conn : ConnPast) (past : PeerPast) (connection : Connection) (peer : Peer D g)
@@ -36,7 +36,7 @@ module _ {D : Type 0} {g : Ghosts D} where
     split = refl;
     settles = None_settled;
     same_conf = refl;
-    outputs_are = sym (append-nil (map said_of outputs));
+    outputs_are = sym (append-nil (map view_of outputs));
     stand = pair;
   }
 
@@ -58,11 +58,11 @@ module _ {D : Type 0} {g : Ghosts D} where
                 ∙ ap (λ (k : ConnPast). (done ++ o ∷ []) ++ unsettled (options_of past.conf) k) (sym one_more)));
             settles = One_settled done o mid one.later some.settles one.settles;
             same_conf = ap (λ (p : PeerPast). p.conf) one.settles.changed ∙ (conf_settled now o mid ∙ some.same_conf);
-            outputs_are = one.outputs_are ∙ (ap (λ l. l ++ settled_said id now mid o ∷ []) some.outputs_are
-                ∙ (append_assoc (map said_of was) _ _ ∙ ap (λ l. map said_of was ++ l)
-                (ap (λ said. map (settled_said id now past) done ++ said ∷ [])
+            outputs_are = one.outputs_are ∙ (ap (λ l. l ++ settled_view id now mid o ∷ []) some.outputs_are
+                ∙ (append_assoc (map view_of was) _ _ ∙ ap (λ l. map view_of was ++ l)
+                (ap (λ said. map (settled_view id now past) done ++ said ∷ [])
                 (said_same id now mid past o some.same_conf)
-                ∙ sym (map_push (settled_said id now past) done o))));
+                ∙ sym (map_push (settled_view id now past) done o))));
             stand = subst (λ (k : ConnPast). PairStands id k one.later new_c new) (sym one_more) one.stand;
           },
         )
@@ -83,7 +83,7 @@ module _ {D : Type 0} {g : Ghosts D} where
                 split = some.split;
                 settles = some.settles;
                 same_conf = some.same_conf;
-                outputs_are = none.outputs_are ∙ (append-nil (map said_of outputs) ∙ some.outputs_are);
+                outputs_are = none.outputs_are ∙ (append-nil (map view_of outputs) ∙ some.outputs_are);
                 stand = none.stand;
               });
         }
@@ -110,9 +110,9 @@ module _ {D : Type 0} {g : Ghosts D} where
 -- ---- what follows a step, as what the step makes
 
 module _ {D : Type 0} {g : Ghosts D} where
-  pub made_by : (T U : List Said → ConnPast → PeerPast → Type 0) (id : ℕ) (before : List Output) (c : Connection)
+  pub made_by : (T U : List View → ConnPast → PeerPast → Type 0) (id : ℕ) (before : List Output) (c : Connection)
       (peer : Peer D g) (outputs : List Output)
-      → ((said : List Said) (later_conn : ConnPast) (later : PeerPast) → T said later_conn later
+      → ((said : List View) (later_conn : ConnPast) (later : PeerPast) → T said later_conn later
       → U said later_conn later)
       → PairMade T id before c peer outputs → PairMade U id before c peer outputs
   made_by T U id before c peer outputs by made = record {

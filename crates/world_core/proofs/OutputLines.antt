@@ -8,7 +8,7 @@ use Rattle.std.proofs.lemmas.List.{map-append}
 use Rattle.std.proofs.lemmas.List.Elements.{All-head, All-tail}
 use Rattle.funnel.specs.Line.{without_cr}
 use Rattle.funnel.specs.Stream.{BeginsWithLine, IsUnended}
-use Rattle.world_core.specs.Output.{SentLine, Said, lines_from, lines_in, said_of}
+use Rattle.world_core.specs.Output.{SentLine, View, lines_from, lines_in, view_of}
 use Rattle.world_core.specs.Pairs.{Tells}
 use Rattle.world_core.specs.declared.output.Output.{Output}
 
@@ -40,11 +40,11 @@ no_line octets each = none [] octets each
 -- one more line is reported, the first of those that are left
 pub tells_line : (id : ℕ) (outputs new : List Output) (one : Output) (rest line behind : List ℕ) → new ≡ outputs
     ++ one ∷ []
-    → said_of one ≡ SentLine id (without_cr line) → BeginsWithLine rest line behind
-    → map said_of new ++ map (SentLine id) (lines_in behind) ≡ map said_of outputs ++ map (SentLine id) (lines_in rest)
+    → view_of one ≡ SentLine id (without_cr line) → BeginsWithLine rest line behind
+    → map view_of new ++ map (SentLine id) (lines_in behind) ≡ map view_of outputs ++ map (SentLine id) (lines_in rest)
 tells_line id outputs new one rest line behind is says begins =
-    rw (is, map-append said_of outputs (one ∷ []), says, first_of_lines rest line behind begins)
-    (append_assoc (map said_of outputs) (SentLine id (without_cr line) ∷ []) (map (SentLine id) (lines_in behind)))
+    rw (is, map-append view_of outputs (one ∷ []), says, first_of_lines rest line behind begins)
+    (append_assoc (map view_of outputs) (SentLine id (without_cr line) ∷ []) (map (SentLine id) (lines_in behind)))
 
 pub some_end : (b : Bool) (n end : ℕ) → cond b (Some n) None ≡ Some end → (b ≡ true) × (n ≡ end)
 some_end true n end is = (refl, cc)
@@ -59,10 +59,10 @@ position_within p xs n is =
 -- ---- what is reported
 
 -- a report in two parts
-pub tells_both : (was mid outputs : List Output) (one other : List Said) → Tells was one mid → Tells mid other outputs
+pub tells_both : (was mid outputs : List Output) (one other : List View) → Tells was one mid → Tells mid other outputs
     → Tells was (one ++ other) outputs
 tells_both was mid outputs one other first second =
-    second ∙ (ap (λ l. l ++ other) first ∙ append_assoc (map said_of was) one other)
+    second ∙ (ap (λ l. l ++ other) first ∙ append_assoc (map view_of was) one other)
 
 pub tells_none : (was outputs : List Output) → outputs ≡ was → Tells was [] outputs
-tells_none was outputs same = ap (map said_of) same ∙ sym (append-nil (map said_of was))
+tells_none was outputs same = ap (map view_of) same ∙ sym (append-nil (map view_of was))

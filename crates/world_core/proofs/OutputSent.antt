@@ -11,9 +11,9 @@ use Rattle.conn_core.specs.declared.options.Options.{Options}
 use Rattle.conn_core.specs.declared.reason.Reason.{Reason}
 use Rattle.world_core.specs.Past.{ConnPast, PeerPast, options_of}
 use Rattle.world_core.specs.Exchange.{followed_up, settled_out, unsettled}
-use Rattle.world_core.specs.Pairs.{Followed, FollowedNot, SettledAll, Tells, settled_said}
+use Rattle.world_core.specs.Pairs.{Followed, FollowedNot, SettledAll, Tells, settled_view}
 use Rattle.world_core.specs.Stands.{HoldsTranscript}
-use Rattle.world_core.specs.Output.{SentLine, closed_said, lines_in, need_said}
+use Rattle.world_core.specs.Output.{SentLine, closed_view, lines_in, need_view}
 use Rattle.world_core.specs.declared.connection.Connection.{Connection}
 use Rattle.world_core.specs.declared.fault.Fault.{Fault}
 use Rattle.world_core.specs.declared.fault.Fault.TheVariants.{NoMemory}
@@ -71,8 +71,8 @@ module _ {D : Type 0} {g : Ghosts D} where
         → ((o : Options) (unread : List ℕ) (h : List Happening) → ConnStands o mid_c.conn unread h → wanted ≡ need o h)
         → ((o : Options) (unread : List ℕ) (h : List Happening) → ConnStands o mid_c.conn unread h
         → closed ≡ reason o h)
-        → Tells one (map (SentLine cxn) (lines_in sending)) two → Tells two (need_said cxn wanted) three
-        → ((w : Option Reason) → was_open ≡ is_none w → Tells three (closed_said cxn w closed) outputs)
+        → Tells one (map (SentLine cxn) (lines_in sending)) two → Tells two (need_view cxn wanted) three
+        → ((w : Option Reason) → was_open ≡ is_none w → Tells three (closed_view cxn w closed) outputs)
         → was_open ≡ is_none (reason (options_of past.conf) was) → count ≡ length sending
         → new_c.rank ≡ mid_c.rank → new_c.waiting ≡ mid_c.waiting → new_c.conn.id ≡ mid_c.conn.id
         → ((o : Options) (unread : List ℕ) (h : List Happening) → ConnStands o mid_c.conn unread h
@@ -92,9 +92,9 @@ module _ {D : Type 0} {g : Ghosts D} where
         (subst (λ (n : ℕ). ConnStands o new_c.conn out.unread (noted o h (Sent n))) many
         (sent o out.unread h stands_out)) in
         record {
-          said = map (settled_said id now past) (unsettled o conn)
+          said = map (settled_view id now past) (unsettled o conn)
               ++ (map (SentLine id) (lines_in (output o h))
-              ++ (need_said id (need o h) ++ closed_said id (reason o was) (reason o h)));
+              ++ (need_view id (need o h) ++ closed_view id (reason o was) (reason o h)));
           later_conn = followed_up o conn;
           later = all.later;
           makes = record { settles = all.some.settles; outputs_are = refl; changed = refl };
@@ -102,11 +102,11 @@ module _ {D : Type 0} {g : Ghosts D} where
               (subst (λ (l : List ℕ). Tells one (map (SentLine id) (lines_in l)) two) sending_is
               (subst (λ (n : ℕ). Tells one (map (SentLine n) (lines_in sending)) two) own_id sent_so))
               (tells_both two three outputs _ _
-              (subst (λ (w : Option ℕ). Tells two (need_said id w) three) (needs o out.unread h stands_out)
-              (subst (λ (n : ℕ). Tells two (need_said n wanted) three) own_id needed))
-              (subst (λ (r : Option Reason). Tells three (closed_said id (reason o was) r) outputs)
+              (subst (λ (w : Option ℕ). Tells two (need_view id w) three) (needs o out.unread h stands_out)
+              (subst (λ (n : ℕ). Tells two (need_view n wanted) three) own_id needed))
+              (subst (λ (r : Option Reason). Tells three (closed_view id (reason o was) r) outputs)
               (closes o out.unread h stands_out)
-              (subst (λ (n : ℕ). Tells three (closed_said n (reason o was) closed) outputs) own_id
+              (subst (λ (n : ℕ). Tells three (closed_view n (reason o was) closed) outputs) own_id
               (says (reason o was) was_is)))));
           stand = pair_on id out (followed_up o conn) all.later mid_c new_c peer all.some.stand refl refl
               (subst (λ (x : Options). GoesOn x h (followed_up o conn).transcript) (sym same)

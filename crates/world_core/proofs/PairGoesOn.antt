@@ -14,7 +14,7 @@ use Rattle.world_core.specs.Exchange.{FailsToSupply, FailsToTick, Follows, Follo
 use Rattle.world_core.specs.Exchange.{Has_no_room, Is_shut, None_settled, None_there, OnPair, PairStep, TakesArticle}
 use Rattle.world_core.specs.Exchange.{TakesBreak, TakesBytes, TakesHand, TakesMoment, Taken_over, broken_off, handed_in}
 use Rattle.world_core.specs.Exchange.{ticked, unsettled, with_transcript}
-use Rattle.world_core.specs.Output.{Said}
+use Rattle.world_core.specs.Output.{View}
 use Rattle.world_core.specs.declared.fault.Fault.{Fault}
 use Rattle.world_core.specs.declared.output.Handed.{Handed as Handover}
 use Rattle.world_core.specs.declared.step.Step.{Step}
@@ -84,7 +84,7 @@ module _ (step : Step) (id now : ℕ) (conn : ConnPast) (peer : PeerPast) (new :
   same_options : unsettled (options_of peer.conf) new ≡ unsettled (options_of mid.conf) new
   same_options = ap (λ (conf : PeerConf). unsettled (options_of conf) new) (sym came.keeps.conf)
 
-  followed : (was : List Happening) (said : List Said) → Follows id now was new mid said next later
+  followed : (was : List Happening) (said : List View) → Follows id now was new mid said next later
       → PairWent step id now conn peer next later
   followed was said f =
       let options = options_of mid.conf in

@@ -91,7 +91,7 @@ module _ {D : Type 0} {g : Ghosts D} where
           broken =
               false;
         }) new
-    flushed_as worked works fits idle is outputs = (
+    flushed_as worked works fits idle is quiet = (
       record {
         worked = tape_works past old stands worked;
         fits = λ full. fits (full_there lies past old stands worked full);
@@ -99,7 +99,7 @@ module _ {D : Type 0} {g : Ghosts D} where
         moments = from_past;
         all = refl;
       },
-      record { stands = is; log = refl; faults = outputs ∙ stands.faults; broken = not_true (broken_of new) works },
+      record { stands = is; log = refl; faults = quiet ∙ stands.faults; broken = not_true (broken_of new) works },
     )
 
     -- a disk reported a fault
@@ -187,20 +187,20 @@ module _ {D : Type 0} {g : Ghosts D} where
       λ full. fits (full_there lies past old.tape stands works full),
     )
 
-    pub unflushed_as : (fault : StationFault) (outputs : Fault) → outputs ≡ fault_of_station fault
+    pub unflushed_as : (fault : StationFault) (refusal : Fault) → refusal ≡ fault_of_station fault
         → ((fault ≡ Broken) ↔ IsBroken old.tape)
         → ((fault ≡ TapeRefused TapeFull) ↔ ((IsBroken old.tape → ⊥) × IsFull old.tape))
         → (pending_of old.tape ≡ 0 → (IsBroken old.tape → ⊥) → ⊥) → IsFlushFault fault
         → (fault ≢ TapeRefused Disk → IsSame old new) → (fault ≡ TapeRefused Disk → IsBroken new.tape)
         → (fault ≡ TapeRefused Disk → OneHasRisen (faults_of old.tape) (faults_of new.tape))
-        → FlushedNot P past outputs new.tape
-    unflushed_as NotHeld outputs e broken full idle kind same breaks cause = absurd kind
-    unflushed_as Broken outputs e broken full idle kind same breaks cause = record {
+        → FlushedNot P past refusal new.tape
+    unflushed_as NotHeld refusal e broken full idle kind same breaks cause = absurd kind
+    unflushed_as Broken refusal e broken full idle kind same breaks cause = record {
       later = past;
       refused = inl (e, tape_broken past old.tape stands (broken.0 refl), refl);
       stands = same_tape past old new stands is (same (λ is. cc));
     }
-    unflushed_as (TapeRefused fault) outputs e broken full idle kind same breaks cause =
+    unflushed_as (TapeRefused fault) refusal e broken full idle kind same breaks cause =
         let works : IsBroken old.tape → ⊥ = λ b. let never : TapeRefused fault ≡ Broken = broken.1 b in cc in
         elim kind [
           | inl long ↦ record {
@@ -232,7 +232,7 @@ module _ {D : Type 0} {g : Ghosts D} where
       where
         refused_once : {one other : TapeFault} → TapeRefused one ≡ TapeRefused other → one ≡ other
         refused_once same = cc
-    unflushed_as NoMemory outputs e broken full idle kind same breaks cause =
+    unflushed_as NoMemory refusal e broken full idle kind same breaks cause =
         let works : IsBroken old.tape → ⊥ = λ b. let never : NoMemory ≡ Broken = broken.1 b in cc in
         record {
           later = past;

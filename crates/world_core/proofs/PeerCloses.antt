@@ -60,20 +60,20 @@ module _ {D : Type 0} {g : Ghosts D} where
     over_not never =
         subst (λ (state : State). Overflows state (Closed (state.closed + 1)) → ⊥) stands.tape.stands.ledger never
 
-    unclosed_tape : (fault : TapeFault) (outputs : Fault) → outputs ≡ fault_of fault
+    unclosed_tape : (fault : TapeFault) (refusal : Fault) → refusal ≡ fault_of fault
         → (IsBroken (tape_of old.station) → ⊥)
         → (TapeRefused fault ≡ TapeRefused (RefusedNote CountFull)
         → Overflows (ledger_of (tape_of old.station)) (closing_at old.station))
         → (TapeRefused fault ≡ TapeRefused PendingFull
         → (Overflows (ledger_of (tape_of old.station)) (closing_at old.station) → ⊥)
         × (pending_of (tape_of old.station) ≡ most_pending))
-        → IsOweTapeFault fault → RefusesClose past.tape (closing past) outputs
-    unclosed_tape (Damaged segment at) outputs e works full pending kind = absurd kind
-    unclosed_tape Disk outputs e works full pending kind = absurd kind
-    unclosed_tape BrokenTape outputs e works full pending kind = absurd kind
-    unclosed_tape TapeFull outputs e works full pending kind = absurd kind
-    unclosed_tape GenerationFull outputs e works full pending kind = absurd kind
-    unclosed_tape PendingFull outputs e works full pending kind = inr (
+        → IsOweTapeFault fault → RefusesClose past.tape (closing past) refusal
+    unclosed_tape (Damaged segment at) refusal e works full pending kind = absurd kind
+    unclosed_tape Disk refusal e works full pending kind = absurd kind
+    unclosed_tape BrokenTape refusal e works full pending kind = absurd kind
+    unclosed_tape TapeFull refusal e works full pending kind = absurd kind
+    unclosed_tape GenerationFull refusal e works full pending kind = absurd kind
+    unclosed_tape PendingFull refusal e works full pending kind = inr (
       (λ _. over_not (pending refl).0),
       inr (inl (
         e,
@@ -81,14 +81,14 @@ module _ {D : Type 0} {g : Ghosts D} where
         no_room_here past.tape (tape_of old.station) stands.tape works (pending refl).1,
       )),
     )
-    unclosed_tape NoTapeMemory outputs e works full pending kind = absurd kind
-    unclosed_tape (RefusedNote fault) outputs e works full pending kind = inl (
+    unclosed_tape NoTapeMemory refusal e works full pending kind = absurd kind
+    unclosed_tape (RefusedNote fault) refusal e works full pending kind = inl (
       e ∙ ap (λ f. fault_of (RefusedNote f)) kind,
       tape_works past.tape (tape_of old.station) stands.tape works,
       over (full (ap (λ f. TapeRefused (RefusedNote f)) kind)),
     )
 
-    unclosed : (fault : StationFault) (outputs : Fault) → outputs ≡ fault_of_station fault
+    unclosed : (fault : StationFault) (refusal : Fault) → refusal ≡ fault_of_station fault
         → ((fault ≡ Broken) ↔ IsBroken (tape_of old.station))
         → (fault ≡ TapeRefused (RefusedNote CountFull)
         → Overflows (ledger_of (tape_of old.station)) (closing_at old.station))
@@ -97,17 +97,17 @@ module _ {D : Type 0} {g : Ghosts D} where
         × (pending_of (tape_of old.station) ≡ most_pending))
         → (fault ≡ NoMemory → IsLegal (ledger_of (tape_of old.station)) (closing_at old.station)
         × (pending_of (tape_of old.station) < most_pending))
-        → IsOweFault fault → RefusesClose past.tape (closing past) outputs
-    unclosed NotHeld outputs e broken full pending memory kind = absurd kind
-    unclosed Broken outputs e broken full pending memory kind =
+        → IsOweFault fault → RefusesClose past.tape (closing past) refusal
+    unclosed NotHeld refusal e broken full pending memory kind = absurd kind
+    unclosed Broken refusal e broken full pending memory kind =
         let is = tape_broken past.tape (tape_of old.station) stands.tape (broken.0 refl) in
         inr ((λ works. absurd (apart (sym works ∙ is))), inl (e, is))
       where
         apart : false ≡ true → ⊥
         apart never = cc
-    unclosed (TapeRefused fault) outputs e broken full pending memory kind =
-        unclosed_tape fault outputs e (λ b. let is : TapeRefused fault ≡ Broken = broken.1 b in cc) full pending kind
-    unclosed NoMemory outputs e broken full pending memory kind =
+    unclosed (TapeRefused fault) refusal e broken full pending memory kind =
+        unclosed_tape fault refusal e (λ b. let is : TapeRefused fault ≡ Broken = broken.1 b in cc) full pending kind
+    unclosed NoMemory refusal e broken full pending memory kind =
         let works : IsBroken (tape_of old.station) → ⊥ = λ b. let is : NoMemory ≡ Broken = broken.1 b in cc in
         let own = memory refl in
         inr (
@@ -121,8 +121,8 @@ module _ {D : Type 0} {g : Ghosts D} where
 
   pub closed_refused : (past : PeerPast) (old new : Peer D g) → PeerStands past old
       → IsSame old.station new.station
-      → new.conf ≡ old.conf → new.parted ≡ old.parted → (fault : StationFault) (outputs : Fault)
-      → outputs ≡ fault_of_station fault
+      → new.conf ≡ old.conf → new.parted ≡ old.parted → (fault : StationFault) (refusal : Fault)
+      → refusal ≡ fault_of_station fault
       → ((fault ≡ Broken) ↔ IsBroken (tape_of old.station))
       → (fault ≡ TapeRefused (RefusedNote CountFull)
       → Overflows (ledger_of (tape_of old.station)) (closing_at old.station))
@@ -131,8 +131,8 @@ module _ {D : Type 0} {g : Ghosts D} where
       × (pending_of (tape_of old.station) ≡ most_pending))
       → (fault ≡ NoMemory → IsLegal (ledger_of (tape_of old.station)) (closing_at old.station)
       × (pending_of (tape_of old.station) < most_pending))
-      → IsOweFault fault → UnclosedPeer past outputs new
-  closed_refused past old new stands same conf parts fault outputs e broken full pending memory kind = record {
-    refused = unclosed past old stands fault outputs e broken full pending memory kind;
+      → IsOweFault fault → UnclosedPeer past refusal new
+  closed_refused past old new stands same conf parts fault refusal e broken full pending memory kind = record {
+    refused = unclosed past old stands fault refusal e broken full pending memory kind;
     stands = same_peer past old new stands same conf parts;
   }

@@ -184,24 +184,24 @@ module _ {D : Type 0} {g : Ghosts D} where
   -- ---- the line is refused
 
   module _ (past : TapePast) (old : Station D g) (note : Note) (stands : TapeStands past old.tape) where
-    unowed_tape : (fault : TapeFault) (outputs : Fault) → outputs ≡ fault_of fault → (IsBroken old.tape → ⊥)
+    unowed_tape : (fault : TapeFault) (refusal : Fault) → refusal ≡ fault_of fault → (IsBroken old.tape → ⊥)
         → (TapeRefused fault ≡ TapeRefused (RefusedNote CountFull) → Overflows (ledger_of old.tape) note)
         → (TapeRefused fault ≡ TapeRefused PendingFull
         → (pending_of old.tape ≡ most_pending) × (Overflows (ledger_of old.tape) note → ⊥))
-        → IsOweTapeFault fault → RefusesOwe past note outputs
-    unowed_tape (Damaged segment at) outputs e works full pending kind = absurd kind
-    unowed_tape Disk outputs e works full pending kind = absurd kind
-    unowed_tape BrokenTape outputs e works full pending kind = absurd kind
-    unowed_tape TapeFull outputs e works full pending kind = absurd kind
-    unowed_tape GenerationFull outputs e works full pending kind = absurd kind
-    unowed_tape PendingFull outputs e works full pending kind = inr (inr (inl (
+        → IsOweTapeFault fault → RefusesOwe past note refusal
+    unowed_tape (Damaged segment at) refusal e works full pending kind = absurd kind
+    unowed_tape Disk refusal e works full pending kind = absurd kind
+    unowed_tape BrokenTape refusal e works full pending kind = absurd kind
+    unowed_tape TapeFull refusal e works full pending kind = absurd kind
+    unowed_tape GenerationFull refusal e works full pending kind = absurd kind
+    unowed_tape PendingFull refusal e works full pending kind = inr (inr (inl (
       e,
       tape_works past old.tape stands works,
       subst (λ (state : State). Overflows state note → ⊥) stands.stands.ledger (pending refl).1,
       no_room_here past old.tape stands works (pending refl).0,
     )))
-    unowed_tape NoTapeMemory outputs e works full pending kind = absurd kind
-    unowed_tape (RefusedNote fault) outputs e works full pending kind =
+    unowed_tape NoTapeMemory refusal e works full pending kind = absurd kind
+    unowed_tape (RefusedNote fault) refusal e works full pending kind =
         inr (inl (
           e ∙ ap (λ f. fault_of (RefusedNote f)) kind,
           tape_works past old.tape stands works,
@@ -209,24 +209,24 @@ module _ {D : Type 0} {g : Ghosts D} where
               (full (ap (λ f. TapeRefused (RefusedNote f)) kind)),
         ))
 
-    unowed : (fault : StationFault) (outputs : Fault) → outputs ≡ fault_of_station fault
+    unowed : (fault : StationFault) (refusal : Fault) → refusal ≡ fault_of_station fault
         → ((fault ≡ Broken) ↔ IsBroken old.tape)
         → (fault ≡ TapeRefused (RefusedNote CountFull) → Overflows (ledger_of old.tape) note)
         → (fault ≡ TapeRefused PendingFull
         → (pending_of old.tape ≡ most_pending) × (Overflows (ledger_of old.tape) note → ⊥))
-        → IsOweFault fault → RefusesOwe past note outputs
-    unowed NotHeld outputs e broken full pending kind = absurd kind
-    unowed Broken outputs e broken full pending kind = inl (e, tape_broken past old.tape stands (broken.0 refl))
-    unowed (TapeRefused fault) outputs e broken full pending kind =
-        unowed_tape fault outputs e (λ b. let is : TapeRefused fault ≡ Broken = broken.1 b in cc) full pending kind
-    unowed NoMemory outputs e broken full pending kind =
+        → IsOweFault fault → RefusesOwe past note refusal
+    unowed NotHeld refusal e broken full pending kind = absurd kind
+    unowed Broken refusal e broken full pending kind = inl (e, tape_broken past old.tape stands (broken.0 refl))
+    unowed (TapeRefused fault) refusal e broken full pending kind =
+        unowed_tape fault refusal e (λ b. let is : TapeRefused fault ≡ Broken = broken.1 b in cc) full pending kind
+    unowed NoMemory refusal e broken full pending kind =
         inr (inr (inr (e, tape_works past old.tape stands (λ b. let is : NoMemory ≡ Broken = broken.1 b in cc))))
 
   pub owed_refused : (mark own : State → ℕ) (past : PeerPast) (old new : Peer D g) (number : ℕ) (token id : List ℕ)
       → PeerStands past old
       → IsSame old.station new.station
-      → new.conf ≡ old.conf → new.parted ≡ old.parted → (fault : StationFault) (outputs : Fault)
-      → outputs ≡ fault_of_station fault
+      → new.conf ≡ old.conf → new.parted ≡ old.parted → (fault : StationFault) (refusal : Fault)
+      → refusal ≡ fault_of_station fault
       → ((fault ≡ Broken) ↔ IsBroken (tape_of old.station))
       → (fault ≡ TapeRefused (RefusedNote CountFull)
       → Overflows (ledger_of (tape_of old.station)) (Owe (own (ledger_of (tape_of old.station))) token id))
@@ -235,15 +235,15 @@ module _ {D : Type 0} {g : Ghosts D} where
       × (Overflows (ledger_of (tape_of old.station)) (Owe (own (ledger_of (tape_of old.station))) token id) → ⊥))
       → IsOweFault fault
       → ((IsBroken (tape_of old.station) → ⊥) → number ≤ mark (ledger_of (tape_of old.station)) → ⊥)
-      → OwedNot (answer_by mark number) (key_by own) token id past outputs new
-  owed_refused mark own past old new number token id stands same conf parts fault outputs e broken full pending kind
+      → OwedNot (answer_by mark number) (key_by own) token id past refusal new
+  owed_refused mark own past old new number token id stands same conf parts fault refusal e broken full pending kind
       over =
       record {
         refused = (
           λ works. above_mark (λ b. let said_so = tape_broken past.tape (tape_of old.station) stands.tape b in cc),
-          subst (λ (state : State). RefusesOwe past.tape (Owe (own state) token id) outputs) stands.tape.stands.ledger
+          subst (λ (state : State). RefusesOwe past.tape (Owe (own state) token id) refusal) stands.tape.stands.ledger
               (unowed past.tape old.station (Owe (own (ledger_of (tape_of old.station))) token id) stands.tape fault
-              outputs
+              refusal
               e broken full pending kind),
           refl,
         );

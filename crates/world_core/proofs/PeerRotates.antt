@@ -77,11 +77,11 @@ module _ {D : Type 0} {g : Ghosts D} where
           broken =
               false;
         }) new
-    rotated_as generation worked works greater fits next now is outputs =
+    rotated_as generation worked works greater fits next now is quiet =
         let rotated : TapePast =
         record { history = flushed past.history; log = log_of new; faults = past.faults; broken = false } in
         let later : TapeStands rotated new =
-        record { stands = is; log = refl; faults = outputs ∙ stands.faults; broken = not_true (broken_of new) works }
+        record { stands = is; log = refl; faults = quiet ∙ stands.faults; broken = not_true (broken_of new) works }
         in (
           record {
             before = generation_of old;
@@ -98,11 +98,11 @@ module _ {D : Type 0} {g : Ghosts D} where
       → Type 0) (past : TapePast) (old new : Station D g) (stands : TapeStands past old.tape)
       (moments : LedgersLeave P (log_of old.tape) (log_of new.tape)) (is : StandsFor new.tape past.history) where
     -- it was refused, after what it would rewrite was read
-    read_not : (outputs : Fault) (rotation : Rotation) → ComesTo past (generation_of old.tape) rotation
+    read_not : (refusal : Fault) (rotation : Rotation) → ComesTo past (generation_of old.tape) rotation
         → IsTapeRead old.tape new.tape
-        → (IsReadTape past (read_now past new.tape) → RefusesAs P rotation past outputs (read_now past new.tape))
-        → RotatedNot P past outputs new.tape
-    read_not outputs rotation comes same refuses =
+        → (IsReadTape past (read_now past new.tape) → RefusesAs P rotation past refusal (read_now past new.tape))
+        → RotatedNot P past refusal new.tape
+    read_not refusal rotation comes same refuses =
         let read = read_tape past old.tape new.tape stands same in
         record {
           later = read_now past new.tape;
@@ -110,7 +110,7 @@ module _ {D : Type 0} {g : Ghosts D} where
           stands = read.1;
         }
 
-    pub unrotated_as : (fault : StationFault) (outputs : Fault) → outputs ≡ fault_of_station fault
+    pub unrotated_as : (fault : StationFault) (refusal : Fault) → refusal ≡ fault_of_station fault
         → ((fault ≡ Broken) ↔ IsBroken old.tape)
         → ((fault ≡ TapeRefused GenerationFull) ↔ ((IsBroken old.tape → ⊥) × (generation_of old.tape ≡ 2 ^ 64 - 1)))
         → ((fault ≡ TapeRefused TapeFull)
@@ -118,24 +118,24 @@ module _ {D : Type 0} {g : Ghosts D} where
         → IsRotateFault fault → (fault ≢ TapeRefused Disk → IsTapeRead old.tape new.tape)
         → (fault ≡ TapeRefused Disk → IsBroken new.tape)
         → (fault ≡ TapeRefused Disk → OneHasRisen (faults_of old.tape) (faults_of new.tape))
-        → RotatedNot P past outputs new.tape
-    unrotated_as NotHeld outputs e broken greatest full kind same breaks cause = absurd kind
-    unrotated_as Broken outputs e broken greatest full kind same breaks cause =
-        read_not outputs Is_broken (tape_broken past old.tape stands (broken.0 refl)) (same (λ is. cc)) (λ read. (
+        → RotatedNot P past refusal new.tape
+    unrotated_as NotHeld refusal e broken greatest full kind same breaks cause = absurd kind
+    unrotated_as Broken refusal e broken greatest full kind same breaks cause =
+        read_not refusal Is_broken (tape_broken past old.tape stands (broken.0 refl)) (same (λ is. cc)) (λ read. (
           e,
           read,
         ))
-    unrotated_as (TapeRefused fault) outputs e broken greatest full kind same breaks cause =
+    unrotated_as (TapeRefused fault) refusal e broken greatest full kind same breaks cause =
         let works : IsBroken old.tape → ⊥ = λ b. let never : TapeRefused fault ≡ Broken = broken.1 b in cc in
         elim kind [
           | inl last ↦
-              read_not outputs Is_last
+              read_not refusal Is_last
               (lives_by lies past old.tape stands works, (greatest.0 (ap TapeRefused last)).1)
               (same (λ never. let clash : GenerationFull ≡ Disk = sym last ∙ refused_once never in cc))
               (λ read. (as_said last, read))
           | inr (inl long) ↦
               let at_last = full.0 (ap TapeRefused long) in
-              read_not outputs Is_long (is_long lies past old.tape stands works at_last.1 at_last.2)
+              read_not refusal Is_long (is_long lies past old.tape stands works at_last.1 at_last.2)
               (same (λ never. let clash : TapeFull ≡ Disk = sym long ∙ refused_once never in cc))
               (λ read. (as_said long, read))
           | inr (inr disk) ↦
@@ -157,13 +157,13 @@ module _ {D : Type 0} {g : Ghosts D} where
         refused_once : {one other : TapeFault} → TapeRefused one ≡ TapeRefused other → one ≡ other
         refused_once same = cc
 
-        as_said : {other : TapeFault} → fault ≡ other → outputs ≡ fault_of_station (TapeRefused other)
+        as_said : {other : TapeFault} → fault ≡ other → refusal ≡ fault_of_station (TapeRefused other)
         as_said same = e ∙ ap (λ f. fault_of_station (TapeRefused f)) same
-    unrotated_as NoMemory outputs e broken greatest full kind same breaks cause =
+    unrotated_as NoMemory refusal e broken greatest full kind same breaks cause =
         let works : IsBroken old.tape → ⊥ = λ b. let never : NoMemory ≡ Broken = broken.1 b in cc in
         let greater : generation_of old.tape ≢ 2 ^ 64 - 1 = λ at_last.
         let never : NoMemory ≡ TapeRefused GenerationFull = greatest.1 (works, at_last) in cc in
-        read_not outputs Fits (may_rotate lies past old.tape stands works greater
+        read_not refusal Fits (may_rotate lies past old.tape stands works greater
         (λ long. let never : NoMemory ≡ TapeRefused TapeFull = full.1 (works, greater, long) in cc))
         (same (λ is. cc)) (λ read. inl (e, read))
 

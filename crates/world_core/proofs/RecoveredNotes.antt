@@ -20,7 +20,7 @@ use Rattle.world_core.specs.Laws.{AllAreRecovered, Comes, HasEnded, IsRecovered,
 use Rattle.world_core.specs.Laws.Comes.{No_step, Step_taken, Step_refused}
 use Rattle.world_core.specs.Keeping.{PeerStays}
 use Rattle.world_core.specs.Sound.{IsSoundLife}
-use Rattle.world_core.specs.Output.{Said}
+use Rattle.world_core.specs.Output.{View}
 use Rattle.world_core.specs.declared.step.Step.{Step}
 use Rattle.world_core.proofs.EventLists.{get_left}
 use Rattle.world_core.proofs.HeldNumbers.{contains_first, contains_more}
@@ -222,13 +222,13 @@ all_recovered (a ∷ was) (b ∷ now) stay safe = (recovered a b stay.0 safe.0, 
 
 -- ---- any steps
 
-pub comes_safe : (begun : Life) (steps : List Step) (lines : List (List Said)) (later : Life)
+pub comes_safe : (begun : Life) (steps : List Step) (lines : List (List View)) (later : Life)
     → Comes begun steps lines later → IsSafe later.past
 comes_safe begun _ _ _ (No_step safe sound) = safe
 comes_safe begun _ _ _ (Step_taken steps step lines outputs life later comes takes safe sound) = safe
 comes_safe begun _ _ _ (Step_refused steps step lines fault life later comes refuses safe sound) = safe
 
-pub comes_sound : (begun : Life) (steps : List Step) (lines : List (List Said)) (later : Life)
+pub comes_sound : (begun : Life) (steps : List Step) (lines : List (List View)) (later : Life)
     → Comes begun steps lines later → IsSoundLife later
 comes_sound begun _ _ _ (No_step safe sound) = sound
 comes_sound begun _ _ _ (Step_taken steps step lines outputs life later comes takes safe sound) = sound

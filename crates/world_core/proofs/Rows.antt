@@ -29,7 +29,7 @@ use Rattle.world_core.specs.Moments.{IsUnderWay, MayMake, StaysPrefix}
 use Rattle.world_core.specs.Safe.{IsSafe}
 use Rattle.world_core.specs.Tapes.{noted_at}
 use Rattle.world_core.specs.Steps.{begun_at, flush_events, is_named, line_events, owed_there}
-use Rattle.world_core.specs.Output.{Mark, Owed, Said, lines_in, mark_said}
+use Rattle.world_core.specs.Output.{Mark, Owed, View, lines_in, mark_view}
 use Rattle.world_core.specs.declared.fault.Fault.TheVariants.{Tape}
 use Rattle.world_core.specs.declared.step.Step.TheVariants.{Part, Rotate}
 
@@ -45,7 +45,7 @@ lined token id named past = record past {
 }
 
 -- what it reports
-abbrev line_said : List (List ℕ) → Past → Said
+abbrev line_said : List (List ℕ) → Past → View
 line_said named past = Owed (past.last + 1) (owed_there (past.last + 1) named past.peers)
 
 -- a tape that was flushed
@@ -137,7 +137,7 @@ module _ (conf : PeerConf) where
       ≡ ((1, Ready) ∷ []) ∷ ((1, Ready) ∷ []) ∷ []
   restart_leaves = refl
 
-  restart_tells : map mark_said (restarted (1 ∷ 1 ∷ []) 1 (left AtRest acknowledged)).peers
+  restart_tells : map mark_view (restarted (1 ∷ 1 ∷ []) 1 (left AtRest acknowledged)).peers
       ≡ Mark (codes "p") 1 (1 ∷ []) ∷ Mark (codes "q") 1 (1 ∷ []) ∷ []
   restart_tells = refl
 

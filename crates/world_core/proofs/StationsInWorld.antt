@@ -9,7 +9,7 @@ use Rattle.world_core.specs.Joined.{AreRunning, MadeOn, RefusedOn}
 use Rattle.world_core.specs.Runs.{OnWorld, RefusesWorld}
 use Rattle.world_core.specs.Sound.{HasNumber}
 use Rattle.world_core.specs.Stands.{StageStands, WorldStands, armed_as}
-use Rattle.world_core.specs.Output.{Said, said_of}
+use Rattle.world_core.specs.Output.{View, view_of}
 use Rattle.world_core.specs.Turn.{Made, Refused}
 use Rattle.world_core.specs.declared.connection.Connection.{Connection}
 use Rattle.world_core.specs.declared.fault.Fault.{Fault}
@@ -27,7 +27,7 @@ running_of world life stations conns is stands =
     let here : StageStands life (Running stations conns) = subst (λ (s : Stage). StageStands life s) is stands.stage in
     record { running = here.0; stands = here.1; conns = here.2; tied = stands.sound.conns }
 
-pub made_world : (T : Life → List Said → Life → Type 0) (connected : ℕ) (life : Life) (new : World) (stations : _)
+pub made_world : (T : Life → List View → Life → Type 0) (connected : ℕ) (life : Life) (new : World) (stations : _)
     (conns : Vec Connection Global)
     (before outputs : List Output) → life.running ≡ true → before ≡ [] → new.stage ≡ Running stations conns
     → option_map armed_as new.armed ≡ life.armed → new.connected ≡ connected → new.now ≡ life.now
@@ -36,8 +36,8 @@ made_world T connected life new stations conns before outputs running none stage
   later = made.later;
   makes = (
     running,
-    subst (λ (said : List Said). T life said made.later)
-        (sym (made.outputs_are ∙ ap (λ (l : List Output). map said_of l ++ made.said) none)) made.makes,
+    subst (λ (said : List View). T life said made.later)
+        (sym (made.outputs_are ∙ ap (λ (l : List Output). map view_of l ++ made.said) none)) made.makes,
   );
   stands = record {
     stage = subst (λ (s : Stage). StageStands made.later s) (sym stage) (
@@ -74,13 +74,13 @@ refused_world R life new fault stations conns running stage armed same now refus
 }
 
 -- the same of a fault that is passed on
-pub refused_as : (R : Life → Fault → Life → Type 0) (life : Life) (new : World) (outputs fault : Fault) (stations : _)
+pub refused_as : (R : Life → Fault → Life → Type 0) (life : Life) (new : World) (refusal fault : Fault) (stations : _)
     (conns : Vec Connection Global)
     → life.running ≡ true → new.stage ≡ Running stations conns → option_map armed_as new.armed ≡ life.armed
     → new.connected ≡ life.connected
-    → new.now ≡ life.now → outputs ≡ fault → RefusedOn R life fault stations conns.items
-    → Refused (RefusesWorld R) life outputs new
-refused_as R life new outputs fault stations conns running stage armed same now is refused =
+    → new.now ≡ life.now → refusal ≡ fault → RefusedOn R life fault stations conns.items
+    → Refused (RefusesWorld R) life refusal new
+refused_as R life new refusal fault stations conns running stage armed same now is refused =
     subst (λ (f : Fault). Refused (RefusesWorld R) life f new) (sym is)
     (refused_world R life new fault stations conns running stage armed same now refused)
 

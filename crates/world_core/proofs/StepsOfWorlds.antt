@@ -21,7 +21,7 @@ use Rattle.world_core.specs.Sound.{AreTied, HasNumber, IsSoundConn, numbers_at}
 use Rattle.world_core.specs.Stands.{ConnectionStands, HoldsTranscript, StageStands, Stands, WaitsWith, WorldStands}
 use Rattle.world_core.specs.Stands.{armed_as}
 use Rattle.world_core.specs.Stepped.{HaltedAs, Took as TookTapes, TookNot}
-use Rattle.world_core.specs.Output.{Said, said_of}
+use Rattle.world_core.specs.Output.{View, view_of}
 use Rattle.world_core.specs.Turn.{DiskFails, GoesOn, Made, Refused, Took, WasHalted, WasNotTaken, WasStruck}
 use Rattle.world_core.specs.Turn.{WasStruckUnreported}
 use Rattle.world_core.specs.declared.connection.Connection.{Connection}
@@ -157,7 +157,7 @@ runs_there world life stations conns stands is =
     (here.0, here.1)
 
 pub took_does : (step : Step) (life later : Life) (outputs : List Output) (world : World)
-    → Does step life (map said_of outputs) later → WorldStands world later
+    → Does step life (map view_of outputs) later → WorldStands world later
     → Took step life outputs world
 took_does step life later outputs world does stands = record { later = later; takes = inl does; stands = stands }
 
@@ -257,15 +257,15 @@ module _ (old new : World) (life : Life) (stations now : Stations StopDisk _) (c
   later_stands : (past : Past) → Stands now past → AllHold life.past past → WorldStands new (with_past life past)
   later_stands past on all = stands_on old new life past stations now conns stands was is on all armed connected moment
 
-  pub took_tapes : (step : Step) (T : Past → List Said → Past → Type 0) (outputs : List Output)
-      → ((outputs : List Said) (later : Life) → OnTapes T life outputs later → Does step life outputs later)
-      → ((past later : Past) (outputs : List Said) → T past outputs later → AllHold past later)
+  pub took_tapes : (step : Step) (T : Past → List View → Past → Type 0) (outputs : List Output)
+      → ((outputs : List View) (later : Life) → OnTapes T life outputs later → Does step life outputs later)
+      → ((past later : Past) (outputs : List View) → T past outputs later → AllHold past later)
       → (Stands stations life.past → TookTapes T life.past outputs now) → Took step life outputs new
   took_tapes step T outputs does holds took =
       let t = took on_now in
       took_does step life (with_past life t.later) outputs new
-      (does (map said_of outputs) (with_past life t.later) (runs_now, (t.later, t.takes, refl)))
-      (later_stands t.later t.stands (holds life.past t.later (map said_of outputs) t.takes))
+      (does (map view_of outputs) (with_past life t.later) (runs_now, (t.later, t.takes, refl)))
+      (later_stands t.later t.stands (holds life.past t.later (map view_of outputs) t.takes))
 
   pub took_not : (step : Step) (R : Past → Fault → Past → Type 0) (fault : Fault)
       → ((later : Life) → RefusesTapes R life fault later → Refuses step life fault later)
@@ -300,7 +300,7 @@ module _ (old new : World) (life : Life) (stations now : Stations StopDisk _) (c
       → Took Begin life outputs new
   began outputs none begins =
       took_does Begin life (with_past life (begun_at life.past)) outputs new
-      (runs_now, (begun_at life.past, (ap (map said_of) none, refl), refl))
+      (runs_now, (begun_at life.past, (ap (map view_of) none, refl), refl))
       (later_stands (begun_at life.past) (begins on_now) (holds_begin life.past))
 
   pub flush_was_halted : (halt : Halt)
@@ -422,13 +422,13 @@ seal_fails life halt later at runs (inr (number, may, inr fails)) disk = record 
 
 -- ---- a step that meets no stop
 
-pub made_took : (step : Step) (T : Life → List Said → Life → Type 0) (life : Life) (outputs : List Output) (world :
+pub made_took : (step : Step) (T : Life → List View → Life → Type 0) (life : Life) (outputs : List Output) (world :
     World)
-    → ((outputs : List Said) (later : Life) → T life outputs later → Does step life outputs later)
+    → ((outputs : List View) (later : Life) → T life outputs later → Does step life outputs later)
     → Made T life outputs world
     → Took step life outputs world
 made_took step T life outputs world does made =
-    took_does step life made.later outputs world (does (map said_of outputs) made.later made.makes) made.stands
+    took_does step life made.later outputs world (does (map view_of outputs) made.later made.makes) made.stands
 
 pub refused_not : (step : Step) (R : Life → Fault → Life → Type 0) (life : Life) (world : World)
     → ((fault : Fault) (later : Life) → R life fault later → Refuses step life fault later) → (fault : Fault)

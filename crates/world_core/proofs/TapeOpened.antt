@@ -31,15 +31,15 @@ each_there past log same images = subst (λ (l : Log). EachTape (Survives past.t
     (λ one other is is'. survives_of_prefix past.tape.history (one, other) (images one other is is'))
 
 module _ {D : Type 0} {g : Ghosts D} where
-  pub opened_as : (past : PeerPast) (old : Log) (outputs : ℕ × ℕ) (peer : Peer D g) → old ≡ past.tape.log
-      → outputs ≡ past.tape.faults
+  pub opened_as : (past : PeerPast) (old : Log) (counts : ℕ × ℕ) (peer : Peer D g) → old ≡ past.tape.log
+      → counts ≡ past.tape.faults
       → Recovers past.tape.history old (tape_of peer.station) → IsOpenedTape old (tape_of peer.station)
       → (IsBroken (tape_of peer.station) → ⊥)
-      → faults_of (tape_of peer.station) ≡ outputs
+      → faults_of (tape_of peer.station) ≡ counts
       → places_of peer.station ≡ all_ready (keys (ledger_of (tape_of peer.station)))
       → station_limits peer.station ≡ limits_of past.conf → peer.conf ≡ past.conf → peer.parted ≡ false
       → OpenedAs past peer
-  opened_as past old outputs peer log faults recovers opened works quiet ready limits conf parts = record {
+  opened_as past old counts peer log faults recovers opened works quiet ready limits conf parts = record {
     later = record {
       history = recovered past.tape.history recovers.count;
       log = log_of (tape_of peer.station);
@@ -72,26 +72,26 @@ module _ {D : Type 0} {g : Ghosts D} where
     };
   }
 
-pub refused_why : (Risen : Type 0) (fault : TapeFault) (outputs : Fault) → outputs ≡ fault_of fault → IsOpenFault fault
+pub refused_why : (Risen : Type 0) (fault : TapeFault) (refusal : Fault) → refusal ≡ fault_of fault → IsOpenFault fault
     → ((segment at : ℕ) → fault ≡ Damaged segment at → ⊥) → (fault ≡ Disk → Risen)
-    → ((outputs ≡ FromTape Disk) × Risen) ⊎ (outputs ≡ NoStepMemory)
-refused_why Risen (Damaged segment at) outputs e kind undamaged cause = absurd (undamaged segment at refl)
-refused_why Risen Disk outputs e kind undamaged cause = inl (e, cause refl)
-refused_why Risen Broken outputs e kind undamaged cause = absurd kind
-refused_why Risen TapeFull outputs e kind undamaged cause = absurd kind
-refused_why Risen GenerationFull outputs e kind undamaged cause = absurd kind
-refused_why Risen PendingFull outputs e kind undamaged cause = absurd kind
-refused_why Risen NoMemory outputs e kind undamaged cause = inr e
-refused_why Risen (Note fault) outputs e kind undamaged cause = absurd kind
+    → ((refusal ≡ FromTape Disk) × Risen) ⊎ (refusal ≡ NoStepMemory)
+refused_why Risen (Damaged segment at) refusal e kind undamaged cause = absurd (undamaged segment at refl)
+refused_why Risen Disk refusal e kind undamaged cause = inl (e, cause refl)
+refused_why Risen Broken refusal e kind undamaged cause = absurd kind
+refused_why Risen TapeFull refusal e kind undamaged cause = absurd kind
+refused_why Risen GenerationFull refusal e kind undamaged cause = absurd kind
+refused_why Risen PendingFull refusal e kind undamaged cause = absurd kind
+refused_why Risen NoMemory refusal e kind undamaged cause = inr e
+refused_why Risen (Note fault) refusal e kind undamaged cause = absurd kind
 
-pub refused_as : (past : PeerPast) (old : Log) (outputs : ℕ × ℕ) (peer : StoppedPeer)
-    → AreLegal past.tape.history.base past.tape.history.notes → old ≡ past.tape.log → outputs ≡ past.tape.faults
+pub refused_as : (past : PeerPast) (old : Log) (counts : ℕ × ℕ) (peer : StoppedPeer)
+    → AreLegal past.tape.history.base past.tape.history.notes → old ≡ past.tape.log → counts ≡ past.tape.faults
     → TapeLeaves (Survives past.tape.history) old (happened peer.disks.0, happened peer.disks.1)
     → peer.conf ≡ past.conf → (fault : TapeFault) (said : Fault)
     → said ≡ fault_of fault → IsOpenFault fault → ((segment at : ℕ) → fault ≡ Damaged segment at → ⊥)
-    → (fault ≡ Disk → OneHasRisen outputs (all_faults peer.disks.0, all_faults peer.disks.1))
+    → (fault ≡ Disk → OneHasRisen counts (all_faults peer.disks.0, all_faults peer.disks.1))
     → RefusedOpen past said peer
-refused_as past old outputs peer legal log faults moments conf fault said e kind undamaged cause =
+refused_as past old counts peer legal log faults moments conf fault said e kind undamaged cause =
     let new : Log = (happened peer.disks.0, happened peer.disks.1) in
     let left = keeps_moments past old new moments in
     record {

@@ -11,7 +11,7 @@ use Rattle.std.proofs.lemmas.List.{length-map, length-set, take_all}
 use Rattle.disk_model.specs.declared.Disk.{Ghosts}
 use Rattle.recovery.specs.Words.{ledger_of}
 use Rattle.world_core.specs.Past.{Past, PeerPast, TapePast, mark_at, rank_of}
-use Rattle.world_core.specs.Output.{Rotated as SaidRotated, Shed as SaidShed, Taken as SaidTaken, said_of}
+use Rattle.world_core.specs.Output.{Rotated as SaidRotated, Shed as SaidShed, Taken as SaidTaken, view_of}
 use Rattle.recovery.specs.declared.fault.TapeFault.TheVariants.{Disk}
 use Rattle.world_core.specs.Tapes.{RefusesNote}
 use Rattle.world_core.specs.Events.{Acknowledges, Event, Fails, Parts, Refuses, Rotates, Sees, Sheds, calls_disk}
@@ -41,15 +41,15 @@ pushed old new x more none = more ∙ ap (λ l. l ++ x ∷ []) none
 -- what is reported of a shedding, and of a rotation
 pub shed_said : (name own : List ℕ) (numbers : Vec ℕ) (outputs : List Output) → own ≡ name → outputs
     ≡ OutputShed own numbers ∷ []
-    → map said_of outputs ≡ SaidShed name numbers.items ∷ []
+    → map view_of outputs ≡ SaidShed name numbers.items ∷ []
 shed_said name own numbers outputs is tells =
-    ap (map said_of) tells ∙ ap (λ (n : List ℕ). SaidShed n numbers.items ∷ []) is
+    ap (map view_of) tells ∙ ap (λ (n : List ℕ). SaidShed n numbers.items ∷ []) is
 
 pub rotate_said : (name own : List ℕ) (generation : ℕ) (outputs : List Output) → own ≡ name
     → outputs ≡ OutputRotated own generation ∷ []
-    → map said_of outputs ≡ SaidRotated name generation ∷ []
+    → map view_of outputs ≡ SaidRotated name generation ∷ []
 rotate_said name own generation outputs is tells =
-    ap (map said_of) tells ∙ ap (λ (n : List ℕ). SaidRotated n generation ∷ []) is
+    ap (map view_of) tells ∙ ap (λ (n : List ℕ). SaidRotated n generation ∷ []) is
 
 -- ---- all are flushed
 
@@ -172,9 +172,9 @@ module _ {D : Type 0} {g : Ghosts D} where
   -- the mark that is reported is that of the intake's tape
   marked : (past : Past) (stations : Stations D g) (mark : ℕ) (outputs : List Output) → Stands stations past
       → mark ≡ (ledger_of stations.intake).mark
-      → outputs ≡ OutputTaken mark ∷ [] → map said_of outputs ≡ SaidTaken (mark_at past.intake) ∷ []
+      → outputs ≡ OutputTaken mark ∷ [] → map view_of outputs ≡ SaidTaken (mark_at past.intake) ∷ []
   marked past stations mark outputs stands is tells =
-      ap (map said_of) tells ∙ ap (λ (m : ℕ). SaidTaken m ∷ []) (is ∙ mark_is past.intake stations.intake stands.intake)
+      ap (map view_of) tells ∙ ap (λ (m : ℕ). SaidTaken m ∷ []) (is ∙ mark_is past.intake stations.intake stands.intake)
 
   pub seal_took : (past : Past) (number mark : ℕ) (outputs : List Output) (stations : Stations D g)
       → IsSealable past number
@@ -305,7 +305,7 @@ module _ {D : Type 0} {g : Ghosts D} where
         → Took (TakesPart name) past outputs stations
     part_took outputs none one =
         let did = did_one past (Parts rank) stations one in
-        record { later = did.later; takes = (rank, here, did.does, ap (map said_of) none); stands = did.stands }
+        record { later = did.later; takes = (rank, here, did.does, ap (map view_of) none); stands = did.stands }
 
     pub part_failed : (fault : Fault) → FailedOne past (Parts rank) fault stations
         → TookNot (RefusesPart name) past fault stations
@@ -313,7 +313,7 @@ module _ {D : Type 0} {g : Ghosts D} where
         let failed = failed_one past (Parts rank) fault stations one in
         record { later = failed.later; refuses = inr (rank, here, failed.fails); stands = failed.stands }
 
-    pub shed_took : (outputs : List Output) (numbers : List ℕ) → map said_of outputs ≡ SaidShed name numbers ∷ []
+    pub shed_took : (outputs : List Output) (numbers : List ℕ) → map view_of outputs ≡ SaidShed name numbers ∷ []
         → DidOne past (Sheds rank numbers) stations
         → Took (TakesShed name) past outputs stations
     shed_took outputs numbers is one =
@@ -331,7 +331,7 @@ module _ {D : Type 0} {g : Ghosts D} where
     shed_memory fault memory stands =
         record { later = past; refuses = inr (rank, here, inl (memory, refl)); stands = stands }
 
-    pub rotate_took : (outputs : List Output) (generation : ℕ) → map said_of outputs ≡ SaidRotated name generation ∷ []
+    pub rotate_took : (outputs : List Output) (generation : ℕ) → map view_of outputs ≡ SaidRotated name generation ∷ []
         → DidOne past (Rotates rank generation) stations → Took (TakesRotate name) past outputs stations
     rotate_took outputs generation is one =
         let did = did_one past (Rotates rank generation) stations one in

@@ -16,7 +16,7 @@ use Rattle.world_core.specs.Exchange.TicksEach.{Start as NoneTicked, Next as One
 use Rattle.world_core.specs.Halts.{AtRest, Manner, RefusesRestart, RefusesStop, TakesStop, left}
 use Rattle.world_core.specs.Laws.{Comes}
 use Rattle.world_core.specs.Laws.Comes.{No_step, Step_taken, Step_refused}
-use Rattle.world_core.specs.Output.{Said}
+use Rattle.world_core.specs.Output.{View}
 use Rattle.world_core.specs.declared.fault.Fault.{Fault}
 use Rattle.world_core.specs.declared.step.Step.{Step}
 use Rattle.world_core.specs.declared.step.Step.TheVariants.{Line, Flush, Begin, Part, Seal, Connect, Hand, Bytes}
@@ -79,7 +79,7 @@ module _ (passage : Passage) where
   pair_makes T step id goes life reports later t =
       goes_on step id life later (went_on T step id goes life reports later t)
 
-  ticks_make : (now : ℕ) (begun : Life) (count : ℕ) (outputs : List Said) (later : Life)
+  ticks_make : (now : ℕ) (begun : Life) (count : ℕ) (outputs : List View) (later : Life)
       → TicksEach begun count outputs later → MAKES (Tick now) begun later
   ticks_make now begun _ _ _ NoneTicked = same_life (Tick now) begun begun refl
   ticks_make now begun _ _ _ (OneTicked count outputs more mid later before (id, at, t)) =
@@ -88,7 +88,7 @@ module _ (passage : Passage) where
 
   -- ---- a step that is taken
 
-  stop_makes : (peer : Option (List ℕ)) (call : ℕ) (choice : Choice) (step : Step) (life : Life) (outputs : List Said)
+  stop_makes : (peer : Option (List ℕ)) (call : ℕ) (choice : Choice) (step : Step) (life : Life) (outputs : List View)
       (later : Life)
       → TakesStop peer call choice life outputs later → MAKES step life later
   stop_makes peer zero choice step life outputs later (runs, said, changed) =
@@ -98,7 +98,7 @@ module _ (passage : Passage) where
   stop_makes peer (suc calls) choice step life outputs later (rank, is, said, changed) =
       same_past step life later (ap (λ (l : Life). l.past) changed) (ap (λ (l : Life). l.conns) changed)
 
-  step_makes : (step : Step) (life : Life) (outputs : List Said) (later : Life) → Does step life outputs later
+  step_makes : (step : Step) (life : Life) (outputs : List View) (later : Life) → Does step life outputs later
       → MAKES step life later
   step_makes (Line text) life outputs later (runs, (past, takes, changed)) =
       on_past _ life later past (line_keeps tapes text.items life.past past outputs takes) changed
@@ -137,7 +137,7 @@ module _ (passage : Passage) where
       (restart_keeps tapes on_opens on_intake keeps_left life.past t.past t.opens))
       (ap (λ (l : Life). l.conns) t.changed)
 
-  pub takes_make : (step : Step) (life : Life) (outputs : List Said) (later : Life) → Takes step life outputs later
+  pub takes_make : (step : Step) (life : Life) (outputs : List View) (later : Life) → Takes step life outputs later
       → MAKES step life later
   takes_make step life outputs later (inl does) = step_makes step life outputs later does
   takes_make step life outputs later (inr strikes) =
@@ -268,14 +268,14 @@ module _ (keeper : Keeper) (any : (event : Event) → keeper.ON event)
         keeper.joined begun.past mid.past later.past keeps (went_keeps (Tick now) id mid later t);
   }
 
-  pub runs_all : (was : Life) (steps : List Step) (lines : List (List Said)) (later : Life)
+  pub runs_all : (was : Life) (steps : List Step) (lines : List (List View)) (later : Life)
       → Runs was steps lines later → keeper.KEEPS was.past later.past
   runs_all was _ _ _ (NoStep safe sound) = keeper.alike was.past was.past refl
   runs_all was _ _ _ (OneStep steps step lines outputs life later runs takes safe sound) =
       keeper.joined was.past life.past later.past (runs_all was steps lines life runs)
       (takes_make over_tapes step life outputs later takes)
 
-  pub comes_all : (was : Life) (steps : List Step) (lines : List (List Said)) (later : Life)
+  pub comes_all : (was : Life) (steps : List Step) (lines : List (List View)) (later : Life)
       → Comes was steps lines later → keeper.KEEPS was.past later.past
   comes_all was _ _ _ (No_step safe sound) = keeper.alike was.past was.past refl
   comes_all was _ _ _ (Step_taken steps step lines outputs life later comes takes safe sound) =

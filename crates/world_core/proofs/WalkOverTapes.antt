@@ -17,7 +17,7 @@ use Rattle.world_core.specs.Steps.{Good, NotGood, Reading, RefusesFlushing, Refu
 use Rattle.world_core.specs.Steps.{RefusesRotation, RefusesSeal, RefusesShed, TakesFlush, TakesImport, TakesLine}
 use Rattle.world_core.specs.Steps.{TakesPart, TakesReading, TakesRotate, TakesSeal, TakesShed, begun_at, flush_events}
 use Rattle.world_core.specs.Steps.{is_named, owes_from, seal_events}
-use Rattle.world_core.specs.Output.{Said}
+use Rattle.world_core.specs.Output.{View}
 use Rattle.world_core.specs.declared.fault.Fault.{Fault}
 use Rattle.world_core.specs.declared.step.Step.{Step}
 use Rattle.world_core.specs.declared.step.Step.TheVariants.{Flush, Import, Part, Restart, Rotate, Seal}
@@ -173,7 +173,7 @@ module _ (keeper : Keeper) where
 
   -- ---- steps on tapes
 
-  reading_keeps : (reading : Reading) (past later : Past) (outputs : List Said)
+  reading_keeps : (reading : Reading) (past later : Past) (outputs : List View)
       → TakesReading reading past outputs later
       → KEEPS past later
   reading_keeps (Good token id named) past later outputs (said, (mid, does, changed)) =
@@ -182,7 +182,7 @@ module _ (keeper : Keeper) where
   reading_keeps (NotGood fault) past later outputs (said, changed) =
       alike past later (ap (λ (p : Past). p.peers) changed)
 
-  pub line_keeps : (text : List ℕ) (past later : Past) (outputs : List Said) → TakesLine text past outputs later
+  pub line_keeps : (text : List ℕ) (past later : Past) (outputs : List View) → TakesLine text past outputs later
       → KEEPS past later
   line_keeps text past later outputs takes = reading_keeps takes.reading past later outputs takes.takes
 
@@ -193,7 +193,7 @@ module _ (keeper : Keeper) where
   line_refused text past later fault (inr (inr (fits, (token, id, named, reads, fails)))) =
       tape_fails past later _ fault (owes_on 0 token id named past.peers) fails
 
-  pub part_keeps : (name : List ℕ) (past later : Past) (outputs : List Said) → TakesPart name past outputs later
+  pub part_keeps : (name : List ℕ) (past later : Past) (outputs : List View) → TakesPart name past outputs later
       → KEEPS past later
   part_keeps name past later outputs (rank, here, does, said) = tape_events past later _ does (tt, tt)
 
@@ -202,7 +202,7 @@ module _ (keeper : Keeper) where
   part_refused name past later fault (inl none) = same_keeps past later none.2
   part_refused name past later fault (inr (rank, here, fails)) = tape_fails past later _ fault (tt, tt) fails
 
-  pub seal_keeps : (past later : Past) (outputs : List Said) → TakesSeal past outputs later → KEEPS past later
+  pub seal_keeps : (past later : Past) (outputs : List View) → TakesSeal past outputs later → KEEPS past later
   seal_keeps past later outputs (number, may, does, said) = tape_events past later _ does (tt, (tt, tt))
 
   pub seal_refused : (past later : Past) (fault : Fault) → RefusesSeal past fault later → KEEPS past later
@@ -210,7 +210,7 @@ module _ (keeper : Keeper) where
   seal_refused past later fault (inr (number, may, inl memory)) = same_keeps past later memory.1
   seal_refused past later fault (inr (number, may, inr fails)) = tape_fails past later _ fault (tt, (tt, tt)) fails
 
-  pub flush_keeps : (past later : Past) (outputs : List Said) → TakesFlush past outputs later → KEEPS past later
+  pub flush_keeps : (past later : Past) (outputs : List View) → TakesFlush past outputs later → KEEPS past later
   flush_keeps past later outputs (does, said) =
       joined past (begun_at past) later (keeps_begun past) (tape_events (begun_at past) later _ does (flush_on past))
 
@@ -220,7 +220,7 @@ module _ (keeper : Keeper) where
       joined past (begun_at past) later (keeps_begun past)
       (tape_fails (begun_at past) later _ fault (flush_on past) fails)
 
-  pub shed_keeps : (name : List ℕ) (past later : Past) (outputs : List Said) → TakesShed name past outputs later
+  pub shed_keeps : (name : List ℕ) (past later : Past) (outputs : List View) → TakesShed name past outputs later
       → KEEPS past later
   shed_keeps name past later outputs (rank, numbers, here, does, said) = tape_events past later _ does (tt, tt)
 
@@ -230,7 +230,7 @@ module _ (keeper : Keeper) where
   shed_refused name past later fault (inr (rank, here, inl memory)) = same_keeps past later memory.1
   shed_refused name past later fault (inr (rank, here, inr fails)) = tape_fails past later _ fault (tt, tt) fails
 
-  pub rotate_keeps : (name : List ℕ) (past later : Past) (outputs : List Said) → TakesRotate name past outputs later
+  pub rotate_keeps : (name : List ℕ) (past later : Past) (outputs : List View) → TakesRotate name past outputs later
       → KEEPS past later
   rotate_keeps name past later outputs (rank, generation, here, does, said) = tape_events past later _ does (tt, tt)
 
@@ -240,7 +240,7 @@ module _ (keeper : Keeper) where
   rotate_refused name past later fault (inr (rank, here, inl memory)) = same_keeps past later memory.1
   rotate_refused name past later fault (inr (rank, here, inr fails)) = tape_fails past later _ fault (tt, tt) fails
 
-  pub import_keeps : (name text : List ℕ) (past later : Past) (outputs : List Said)
+  pub import_keeps : (name text : List ℕ) (past later : Past) (outputs : List View)
       → TakesImport name text past outputs later → KEEPS past later
   import_keeps name text past later outputs (events, is, does, said) =
       tape_events past later events does (import_on name text past events is)
@@ -311,7 +311,7 @@ module _ (keeper : Keeper) where
         subst (λ (l : Life). KEEPS life.past l.past) (sym changed)
         (joined life.past under_way (left manner under_way) keeps (keeps_left manner under_way))
 
-    pub strikes_keep : (step : Step) (life : Life) (outputs : List Said) (later : Life)
+    pub strikes_keep : (step : Step) (life : Life) (outputs : List View) (later : Life)
         → Strikes step life outputs later
         → KEEPS life.past later.past
     strikes_keep step life outputs later strikes =

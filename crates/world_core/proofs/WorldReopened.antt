@@ -14,8 +14,8 @@ use Rattle.world_core.specs.Halting.{TapesStop}
 use Rattle.world_core.specs.Halts.{AtRest, left, left_peer, restart_events}
 use Rattle.world_core.specs.Opening.{AllOpen, HasNoneHeld, OpensNot}
 use Rattle.world_core.specs.Stands.{DisksStand, PeerStands, StageStands, Stands, StoppedStands, WorldStands, armed_as}
-use Rattle.world_core.specs.Stepped.{opened_said}
-use Rattle.world_core.specs.Output.{Mark, mark_said, said_of}
+use Rattle.world_core.specs.Stepped.{opened_view}
+use Rattle.world_core.specs.Output.{Mark, mark_view, view_of}
 use Rattle.world_core.specs.Turn.{Awaits, Took, WasHalted, WasNotTaken}
 use Rattle.world_core.specs.declared.fault.Fault.{Fault}
 use Rattle.world_core.specs.declared.fault.Fault.TheVariants.{NoMemory, Running as StillRuns}
@@ -170,9 +170,9 @@ closed_again world life halt peers intake awaits stopped opens is = record {
 
 module _ {D : Type 0} {g : Ghosts D} where
   pub marks_said : (pasts : List PeerPast) (peers : List (Peer D g)) → AllZip PeerStands pasts peers
-      → map opened_said peers ≡ map mark_said pasts
+      → map opened_view peers ≡ map mark_view pasts
   marks_said pasts peers all =
-      zip_equal PeerStands mark_said opened_said (λ past peer is.
+      zip_equal PeerStands mark_view opened_view (λ past peer is.
       ap (λ conf. Mark conf.name (Rattle.peer_queue.specs.Words.ledger_of peer.station).mark
       (keys (Rattle.peer_queue.specs.Words.ledger_of peer.station))) is.conf
       ∙ ap (λ (state : State). Mark past.conf.name state.mark (keys state)) is.tape.stands.ledger) pasts peers all
@@ -180,7 +180,7 @@ module _ {D : Type 0} {g : Ghosts D} where
 pub runs_again : (old new : World) (life : Life) (stations : _) (conns : _) (outputs : List Output) → Awaits old life
     → life.running ≡ false
     → (opens : AllOpen life.past stations) → new.stage ≡ Running stations conns → conns.items ≡ []
-    → map said_of outputs ≡ map opened_said stations.peers.items
+    → map view_of outputs ≡ map opened_view stations.peers.items
     → new.armed ≡ old.armed → new.connected ≡ old.connected → new.now ≡ old.now → Took Restart life outputs new
 runs_again old new life stations conns outputs awaits stopped opens is none tells armed connected moment =
     let later : Life = record life { past = opens.later; running = true } in

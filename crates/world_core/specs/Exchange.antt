@@ -21,7 +21,7 @@ use Rattle.world_core.specs.Past.{ConnPast, Life, PeerPast, TapePast, conn_at, l
 use Rattle.world_core.specs.Past.{with_conn, with_past, with_peer, with_places, with_tape}
 use Rattle.world_core.specs.Events.{IsCandidate, RefusesClaim, RefusesEnd, claimed_peer, settled, settling}
 use Rattle.world_core.specs.Tapes.{HasRoom, IsReadTape}
-use Rattle.world_core.specs.Output.{Connected, Handed, SentLine, Said, Settled, closed_said, lines_in, need_said}
+use Rattle.world_core.specs.Output.{Connected, Handed, SentLine, View, Settled, closed_view, lines_in, need_view}
 use Rattle.world_core.specs.declared.fault.Fault.{Fault}
 use Rattle.world_core.specs.declared.fault.Fault.TheVariants.{CountFull, NoConnection, NoMemory, NoPeer, NotNeeded}
 use Rattle.world_core.specs.declared.output.Handed.{Handed as Handover}
@@ -85,18 +85,18 @@ pub data AllSettleAt (id now : ℕ) (begun : PeerPast) : List Outcome → PeerPa
       → AllSettleAt id now begun (outcomes ++ outcome ∷ []) later
 
 -- what is reported then, if the connection's transcript was this before the step
-abbrev pub exchange_said : Limits → Options → (id now : ℕ) → (was : List Happening) → ConnPast → List Said
-exchange_said limits options id now was conn =
+abbrev pub exchange_views : Limits → Options → (id now : ℕ) → (was : List Happening) → ConnPast → List View
+exchange_views limits options id now was conn =
     map (λ (outcome : Outcome). Settled id (key_in outcome) (settled_by limits now outcome)) (unsettled options conn)
     ++ (map (SentLine id) (lines_in (output options (settled_out options conn).transcript))
-    ++ (need_said id (need options (settled_out options conn).transcript)
-    ++ closed_said id (reason options was) (reason options (settled_out options conn).transcript)))
+    ++ (need_view id (need options (settled_out options conn).transcript)
+    ++ closed_view id (reason options was) (reason options (settled_out options conn).transcript)))
 
 -- The connection is this now, and had that transcript before the step: what follows has come about, and is reported.
-pub record Follows (id now : ℕ) (was : List Happening) (conn : ConnPast) (peer : PeerPast) (said : List Said)
+pub record Follows (id now : ℕ) (was : List Happening) (conn : ConnPast) (peer : PeerPast) (said : List View)
     (later_conn : ConnPast) (later : PeerPast) : Type 0 where
   pub settles : AllSettleAt id now peer (unsettled (options_of peer.conf) conn) later
-  pub outputs_are : said ≡ exchange_said (limits_of peer.conf) (options_of peer.conf) id now was conn
+  pub outputs_are : said ≡ exchange_views (limits_of peer.conf) (options_of peer.conf) id now was conn
   pub changed : later_conn ≡ followed_up (options_of peer.conf) conn
 
 -- Why no further outcome of these goes to the peer, and what becomes of the connection: memory for the report is
@@ -127,7 +127,7 @@ PairStep A = (id now : ℕ) → ConnPast → PeerPast → A → ConnPast → Pee
 abbrev pub fresh_conn : ℕ → ConnPast
 fresh_conn rank = record { rank = rank; unread = []; transcript = []; settled = 0 }
 
-pub record TakesConnect (name : List ℕ) (life : Life) (outputs : List Said) (later : Life) : Type 0 where
+pub record TakesConnect (name : List ℕ) (life : Life) (outputs : List View) (later : Life) : Type 0 where
   pub rank : ℕ
   pub here : rank_of life.past name ≡ Some rank
   pub fits : life.connected + 1 < 2 ^ 64
@@ -193,13 +193,13 @@ FailsToOffer id now conn peer fault later =
     ⊎ ((fault ≡ NoMemory) × (ready_of (options_of peer.conf) conn.transcript ≡ Yes)
     × ((debt : Owing) × GivesBackAt id now debt peer later))
 
-pub record TakesHand (id now : ℕ) (conn : ConnPast) (peer : PeerPast) (outputs : List Said) (later_conn : ConnPast)
+pub record TakesHand (id now : ℕ) (conn : ConnPast) (peer : PeerPast) (outputs : List View) (later_conn : ConnPast)
     (later : PeerPast) : Type 0 where
   pub handed : Handover
   pub transcript : List Happening
   pub mid : PeerPast
   pub hands : HandsOver id now conn peer handed transcript mid
-  pub behind : List Said
+  pub behind : List View
   pub follows : Follows id now conn.transcript (with_transcript conn transcript) mid behind later_conn later
   pub outputs_are : outputs ≡ Handed id handed ∷ behind
 
@@ -214,7 +214,7 @@ FailsToHand id now conn peer fault later_conn later =
 
 -- ---- octets come in
 
-pub record TakesBytes (octets : List ℕ) (id now : ℕ) (conn : ConnPast) (peer : PeerPast) (outputs : List Said)
+pub record TakesBytes (octets : List ℕ) (id now : ℕ) (conn : ConnPast) (peer : PeerPast) (outputs : List View)
     (later_conn : ConnPast) (later : PeerPast) : Type 0 where
   pub transcript : List Happening
   pub left : List ℕ
@@ -241,7 +241,7 @@ abbrev pub handed_in : PeerPast → ConnPast → ℕ → Handing → ConnPast
 handed_in peer conn number handing =
     with_transcript conn (after (options_of peer.conf) conn.transcript (HandedIn number handing))
 
-pub record TakesArticle (found : Found) (id now : ℕ) (conn : ConnPast) (peer : PeerPast) (outputs : List Said)
+pub record TakesArticle (found : Found) (id now : ℕ) (conn : ConnPast) (peer : PeerPast) (outputs : List View)
     (later_conn : ConnPast) (later : PeerPast) : Type 0 where
   pub number : ℕ
   pub handing : Handing
@@ -266,7 +266,7 @@ abbrev pub broken_off : PeerPast → ConnPast → ConnPast
 broken_off peer conn =
     record conn { unread = []; transcript = outside (options_of peer.conf) conn.transcript Broke }
 
-abbrev pub TakesBreak : PairStep (List Said)
+abbrev pub TakesBreak : PairStep (List View)
 TakesBreak id now conn peer = Follows id now conn.transcript (broken_off peer conn) peer
 
 abbrev pub FailsToBreak : PairStep Fault
@@ -280,7 +280,7 @@ ticked now peer conn = record conn {
   transcript = outside (options_of peer.conf) conn.transcript (Tick now);
 }
 
-abbrev pub TakesMoment : PairStep (List Said)
+abbrev pub TakesMoment : PairStep (List View)
 TakesMoment id now conn peer = Follows id now conn.transcript (ticked now peer conn) peer
 
 abbrev pub FailsToTick : PairStep Fault
@@ -314,7 +314,7 @@ RefusesOn R id life fault later =
     ((fault ≡ NoConnection) × (conn_at life.conns id ≡ None) × (later ≡ life)) ⊎ OnPair R id life fault later
 
 -- the moment was set of the connection at this index
-abbrev pub TicksOne : ℕ → Life → List Said → Life → Type 0
+abbrev pub TicksOne : ℕ → Life → List View → Life → Type 0
 TicksOne index life outputs later =
     (id : ℕ) × ((conn : ConnPast) × (slice_get life.conns index ≡ Some (id, conn)))
     × OnPair TakesMoment id life outputs later
@@ -327,19 +327,19 @@ TicksOneNot index life fault later =
 
 -- the moment was set of this many connections, in the order of their numbers, and what follows has come about for each
 -- in turn
-pub data TicksEach (begun : Life) : ℕ → List Said → Life → Type 0 where
+pub data TicksEach (begun : Life) : ℕ → List View → Life → Type 0 where
   Start : TicksEach begun 0 [] begun
-  Next : (count : ℕ) (outputs more : List Said) (mid later : Life) → TicksEach begun count outputs mid
+  Next : (count : ℕ) (outputs more : List View) (mid later : Life) → TicksEach begun count outputs mid
       → TicksOne count mid more later
       → TicksEach begun (count + 1) (outputs ++ more) later
 
-abbrev pub TicksSome : ℕ → Life → List Said → Life → Type 0
+abbrev pub TicksSome : ℕ → Life → List View → Life → Type 0
 TicksSome count life outputs later = TicksEach life count outputs later
 
 -- the moment was set of this many, and what follows was refused for the next
 pub record TicksNot (life : Life) (fault : Fault) (later : Life) : Type 0 where
   pub count : ℕ
-  pub outputs : List Said
+  pub outputs : List View
   pub mid : Life
   pub prefix : TicksEach life count outputs mid
   pub fails : TicksOneNot count mid fault later
@@ -348,7 +348,7 @@ pub record TicksNot (life : Life) (fault : Fault) (later : Life) : Type 0 where
 abbrev pub at_moment : ℕ → Life → Life
 at_moment now life = record life { now = now }
 
-abbrev pub TakesTick : ℕ → Life → List Said → Life → Type 0
+abbrev pub TakesTick : ℕ → Life → List View → Life → Type 0
 TakesTick now life outputs later = TicksSome (length life.conns) (at_moment now life) outputs later
 
 abbrev pub RefusesTick : ℕ → Life → Fault → Life → Type 0

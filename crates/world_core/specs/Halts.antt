@@ -11,7 +11,7 @@ use Rattle.world_core.specs.Events.{AllDo, Event, Fails, Opens, OpensIntake, Par
 use Rattle.world_core.specs.Events.{each_rank}
 use Rattle.world_core.specs.Imports.{IsImport}
 use Rattle.world_core.specs.Steps.{IsSealable, begun_at, flush_events, seal_events}
-use Rattle.world_core.specs.Output.{Said, Stopped, mark_said}
+use Rattle.world_core.specs.Output.{View, Stopped, mark_view}
 use Rattle.world_core.specs.declared.fault.Fault.{Fault}
 use Rattle.world_core.specs.declared.fault.Fault.TheVariants.{NoMemory, NoPeer, Running, Stopped as HasStopped, Tape}
 use Rattle.world_core.specs.declared.step.Step.{Step}
@@ -71,7 +71,7 @@ abbrev pub armed_with : Armed → Life → Life
 armed_with stop life = record life { armed = Some stop }
 
 -- at call 0 all stops at rest; else a stop is armed
-abbrev pub TakesStop : Option (List ℕ) → ℕ → Choice → Life → List Said → Life → Type 0
+abbrev pub TakesStop : Option (List ℕ) → ℕ → Choice → Life → List View → Life → Type 0
 TakesStop peer zero choice life outputs later =
     (life.running ≡ true) × (outputs ≡ Stopped ∷ []) × (later ≡ halted AtRest life.past life)
 TakesStop peer (suc calls) choice life outputs later =
@@ -91,11 +91,11 @@ RefusesStop peer (suc calls) life fault later =
 abbrev pub restart_events : Past → List Event
 restart_events past = each_rank Opens (length past.peers) ++ OpensIntake ∷ []
 
-pub record TakesRestart (life : Life) (outputs : List Said) (later : Life) : Type 0 where
+pub record TakesRestart (life : Life) (outputs : List View) (later : Life) : Type 0 where
   pub stopped : life.running ≡ false
   pub past : Past
   pub opens : AllDo life.past (restart_events life.past) past
-  pub outputs_are : outputs ≡ map mark_said past.peers
+  pub outputs_are : outputs ≡ map mark_view past.peers
   pub changed : later ≡ record life { past = past; running = true }
 
 -- an opening was refused, and those before it stand; or memory was refused, after some of them
@@ -161,7 +161,7 @@ pub record Meets (step : Step) (life : Life) (stop : Armed) (under_way : Past) :
   pub before : IsSafe under_way
 
 -- each disk, also of tapes that were at rest, has what the stop's choice leaves, and the step reports only the stop
-pub record Strikes (step : Step) (life : Life) (outputs : List Said) (later : Life) : Type 0 where
+pub record Strikes (step : Step) (life : Life) (outputs : List View) (later : Life) : Type 0 where
   pub stop : Armed
   pub under_way : Past
   pub meets : Meets step life stop under_way

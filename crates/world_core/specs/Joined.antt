@@ -6,7 +6,7 @@ use Rattle.world_core.specs.Past.{ConnPast, Life, PeerPast, conn_at}
 use Rattle.world_core.specs.Pairs.{Tells}
 use Rattle.world_core.specs.Sound.{AreTied}
 use Rattle.world_core.specs.Stands.{ConnectionStands, Stands}
-use Rattle.world_core.specs.Output.{Said}
+use Rattle.world_core.specs.Output.{View}
 use Rattle.world_core.specs.declared.connection.Connection.{Connection}
 use Rattle.world_core.specs.declared.fault.Fault.{Fault}
 use Rattle.world_core.specs.declared.stations.Stations.{Stations}
@@ -28,10 +28,10 @@ module _ {D : Type 0} {g : Ghosts D} where
     pub tied : AreTied life
 
   -- a step makes this of the world, whose last connection has this number, and reports this
-  pub record MadeOn (T : Life → List Said → Life → Type 0) (connected : ℕ) (life : Life) (before outputs : List Output)
+  pub record MadeOn (T : Life → List View → Life → Type 0) (connected : ℕ) (life : Life) (before outputs : List Output)
       (stations : Stations D g) (connections : List Connection) : Type 0 where
     pub later : Life
-    pub said : List Said
+    pub said : List View
     pub makes : T life said later
     pub outputs_are : Tells before said outputs
     pub stand : AreRunning later stations connections

@@ -18,7 +18,7 @@ use Rattle.world_core.specs.Exchange.{IsConn}
 use Rattle.world_core.specs.Runs.{RefusesStep, Takes}
 use Rattle.world_core.specs.Safe.{IsSafe}
 use Rattle.world_core.specs.Sound.{IsSoundLife}
-use Rattle.world_core.specs.Output.{Said}
+use Rattle.world_core.specs.Output.{View}
 use Rattle.world_core.specs.declared.fault.Fault.{Fault}
 use Rattle.world_core.specs.declared.step.Step.{Step}
 use Rattle.world_core.specs.declared.step.Step.TheVariants.{Hand}
@@ -26,20 +26,20 @@ use Rattle.world_core.specs.declared.step.Step.TheVariants.{Hand}
 -- What comes of a world by these steps, one after another: each is taken, and reports this, or is refused, and reports
 -- nothing. A run ends at the first that is refused, and another run may go on from there. Before and after each step
 -- the world is sound, and whatever a stop leaves is safe.
-pub data Comes (begun : Life) : List Step → List (List Said) → Life → Type 0 where
+pub data Comes (begun : Life) : List Step → List (List View) → Life → Type 0 where
   No_step : IsSafe begun.past → IsSoundLife begun → Comes begun [] [] begun
-  Step_taken : (steps : List Step) (step : Step) (lines : List (List Said)) (outputs : List Said) (life later : Life)
+  Step_taken : (steps : List Step) (step : Step) (lines : List (List View)) (outputs : List View) (life later : Life)
       → Comes begun steps lines life
       → Takes step life outputs later → IsSafe later.past → IsSoundLife later
       → Comes begun (steps ++ step ∷ []) (lines ++ outputs ∷ []) later
-  Step_refused : (steps : List Step) (step : Step) (lines : List (List Said)) (fault : Fault) (life later : Life)
+  Step_refused : (steps : List Step) (step : Step) (lines : List (List View)) (fault : Fault) (life later : Life)
       → Comes begun steps lines life
       → RefusesStep step life fault later → IsSafe later.past → IsSoundLife later
       → Comes begun (steps ++ step ∷ []) lines later
 
 -- this relation holds of any two worlds of which steps make the second from the first
 abbrev pub OverRuns : (Life → Life → Type 0) → Type 0
-OverRuns R = (begun later : Life) (steps : List Step) (lines : List (List Said)) → Comes begun steps lines later
+OverRuns R = (begun later : Life) (steps : List Step) (lines : List (List View)) → Comes begun steps lines later
     → R begun later
 
 -- ---- what was acknowledged stays acknowledged
@@ -57,11 +57,11 @@ pub record AllStayAcknowledged (begun later : Life) : Type 0 where
 -- ---- each final answer is right
 
 -- A world between the steps: some of them, from the first on, made it, and the others went on from it.
-pub record Passes (begun : Life) (steps : List Step) (lines : List (List Said)) (later life : Life) : Type 0 where
+pub record Passes (begun : Life) (steps : List Step) (lines : List (List View)) (later life : Life) : Type 0 where
   pub first : List Step
   pub others : List Step
-  pub first_lines : List (List Said)
-  pub other_lines : List (List Said)
+  pub first_lines : List (List View)
+  pub other_lines : List (List View)
   pub steps_are : steps ≡ first ++ others
   pub lines_are : lines ≡ first_lines ++ other_lines
   pub made : Comes begun first first_lines life
@@ -89,7 +89,7 @@ pub record Rules (life : Life) (rank id : ℕ) (verdict : Verdict) : Type 0 wher
 
 -- One of the steps, a `hand`, handed the debt to the connection of this number: in the world before that step, the peer
 -- at this rank owed it, under this number, token and id, as the least that might be claimed.
-pub record WasTaken (begun : Life) (steps : List Step) (lines : List (List Said)) (later : Life) (rank id : ℕ)
+pub record WasTaken (begun : Life) (steps : List Step) (lines : List (List View)) (later : Life) (rank id : ℕ)
     (debt : Owing) : Type 0 where
   pub life : Life
   pub passes : Passes begun steps lines later life
@@ -110,7 +110,7 @@ pub record WasAccepted (begun : Life) (rank id : ℕ) (debt : Owing) : Type 0 wh
   pub accepts : slice_get (accepted conn.transcript) ticket ≡ Some debt
 
 -- A connection has come to a verdict of this code on the peer's debt of this number.
-pub record HasVerdict (begun : Life) (steps : List Step) (lines : List (List Said)) (later : Life)
+pub record HasVerdict (begun : Life) (steps : List Step) (lines : List (List View)) (later : Life)
     (rank number : ℕ) (code : FinalCode) : Type 0 where
   -- a world between the steps, and in it the connection, by its number, that has come to the verdict
   pub life : Life
@@ -131,7 +131,7 @@ HasFinal life rank number code = (peer : PeerPast) × (slice_get life.past.peers
 
 -- a final answer among a peer's notes was there before the steps, or has its verdict
 abbrev pub AllFinalsAreRight : Type 0
-AllFinalsAreRight = (begun later : Life) (steps : List Step) (lines : List (List Said))
+AllFinalsAreRight = (begun later : Life) (steps : List Step) (lines : List (List View))
     → Comes begun steps lines later
     → (rank number : ℕ) (code : FinalCode) → HasFinal later rank number code
     → HasFinal begun rank number code ⊎ HasVerdict begun steps lines later rank number code

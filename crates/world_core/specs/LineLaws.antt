@@ -16,7 +16,7 @@ use Rattle.world_core.specs.Laws.{Comes, HasEnded, IsAcknowledgedLine}
 use Rattle.world_core.specs.Moments.{IsUnderWay}
 use Rattle.world_core.specs.Runs.{Takes}
 use Rattle.world_core.specs.Steps.{is_named}
-use Rattle.world_core.specs.Output.{Bad, Owed, Said}
+use Rattle.world_core.specs.Output.{Bad, Owed, View}
 use Rattle.world_core.specs.declared.step.Step.{Step}
 use Rattle.world_core.specs.declared.step.Step.TheVariants.{Line}
 
@@ -41,7 +41,7 @@ LinesAreKept begun later = (rank number : ℕ) (token id : List ℕ) (now : Peer
 
 -- and at each moment within a step
 abbrev pub LinesAreKeptWithin : Type 0
-LinesAreKeptWithin = (begun life : Life) (steps : List Step) (lines : List (List Said)) → Comes begun steps lines life
+LinesAreKeptWithin = (begun life : Life) (steps : List Step) (lines : List (List View)) → Comes begun steps lines life
     → (step : Step) (was now : Past) → IsUnderWay step life was now
     → (rank number : ℕ) (token id : List ℕ) (old new : PeerPast) → MadeDebt begun.past rank number token id
     → slice_get was.peers rank ≡ Some old → slice_get now.peers rank ≡ Some new
@@ -79,7 +79,7 @@ read_by number token id named past = record past {
 
 -- A good line was read under this number: `new` is reported at exactly those peers that it names whose mark is below
 -- the number; each of them owes it now, and nothing changes at the others.
-pub record WasRead (number : ℕ) (text : List ℕ) (life : Life) (outputs : List Said) (later : Life) : Type 0 where
+pub record WasRead (number : ℕ) (text : List ℕ) (life : Life) (outputs : List View) (later : Life) : Type 0 where
   pub token : List ℕ
   pub id : List ℕ
   pub named : List (List ℕ)
@@ -90,11 +90,11 @@ pub record WasRead (number : ℕ) (text : List ℕ) (life : Life) (outputs : Lis
   pub changed : later ≡ with_past life (read_by number token id named life.past)
 
 -- A malformed line changes nothing at any peer.
-pub record WasBad (number : ℕ) (life : Life) (outputs : List Said) (later : Life) : Type 0 where
+pub record WasBad (number : ℕ) (life : Life) (outputs : List View) (later : Life) : Type 0 where
   pub fault : LineFault
   pub tells : outputs ≡ Bad number fault ∷ []
   pub changed : later ≡ with_past life (with_last life.past number)
 
 abbrev pub LinesAreReadAgain : Type 0
-LinesAreReadAgain = (life later : Life) (outputs : List Said) (text : Vec ℕ) → Takes (Line text) life outputs later
+LinesAreReadAgain = (life later : Life) (outputs : List View) (text : Vec ℕ) → Takes (Line text) life outputs later
     → WasRead (life.past.last + 1) text.items life outputs later ⊎ WasBad (life.past.last + 1) life outputs later

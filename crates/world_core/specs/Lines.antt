@@ -11,7 +11,7 @@ use Rattle.peer_queue.specs.declared.limits.Owed.{Owed as Answer}
 use Rattle.peer_queue.specs.declared.limits.Owed.TheVariants.{New, Already}
 use Rattle.peer_queue.specs.declared.settled.Settled.{Settled as Settling}
 use Rattle.peer_queue.specs.declared.settled.Settled.TheVariants.{Answered, Dropped, Later, Ready}
-use Rattle.world_core.specs.Output.{Bad, Closed, Connected, Handed, Imported, Mark, Need, SentLine, Owed, Rotated, Said}
+use Rattle.world_core.specs.Output.{Bad, Closed, Connected, Handed, Imported, Mark, Need, SentLine, Owed, Rotated, View}
 use Rattle.world_core.specs.Output.{Settled, Shed, Stopped, Taken}
 use Rattle.world_core.specs.declared.output.Handed.{Handed as Handover}
 use Rattle.world_core.specs.declared.output.Handed.TheVariants.{Busy, Closed as HasClosed, Debt, Nothing}
@@ -51,7 +51,7 @@ keys_text [] = codes " -"
 keys_text (key ∷ rest) = flat_map (λ (k : ℕ). 32 ∷ key_text k) (key ∷ rest)
 
 -- what is reported, without its LF; a connection is written as `c` and its number
-abbrev pub output_text : Said → List ℕ
+abbrev pub output_text : View → List ℕ
 output_text (Owed number peers) = decimal number ++ flat_map owed_text peers
 output_text (Bad number fault) = decimal number ++ codes " bad " ++ line_fault_name fault
 output_text (Taken mark) = codes "taken " ++ decimal mark
@@ -68,5 +68,5 @@ output_text Stopped = codes "stopped"
 output_text (Mark name mark owes) = name ++ codes " mark " ++ decimal mark ++ codes " owes" ++ keys_text owes
 
 -- the line of what is reported
-abbrev pub line_text : Said → List ℕ
+abbrev pub line_text : View → List ℕ
 line_text said = output_text said ++ 10 ∷ []

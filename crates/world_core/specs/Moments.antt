@@ -10,7 +10,7 @@ use Rattle.world_core.specs.Halts.{CallsDisks}
 use Rattle.world_core.specs.Laws.{Comes, StillOwes}
 use Rattle.world_core.specs.Runs.{RefusesStep, Takes}
 use Rattle.world_core.specs.Safe.{KeepsLines}
-use Rattle.world_core.specs.Output.{Said}
+use Rattle.world_core.specs.Output.{View}
 use Rattle.world_core.specs.declared.fault.Fault.{Fault}
 use Rattle.world_core.specs.declared.step.Step.{Step}
 use Rattle.world_core.specs.declared.step.Step.TheVariants.{Rotate}
@@ -52,7 +52,7 @@ pub record AreRecoveredWithin (begun was now : Past) : Type 0 where
   pub lines : StaysBelow was now
 
 abbrev pub AllMomentsAreRecovered : Type 0
-AllMomentsAreRecovered = (begun life : Life) (steps : List Step) (lines : List (List Said))
+AllMomentsAreRecovered = (begun life : Life) (steps : List Step) (lines : List (List View))
     → Comes begun steps lines life
     → (step : Step) (was now : Past) → IsUnderWay step life was now
     → AreRecoveredWithin begun.past was now
@@ -62,7 +62,7 @@ AllMomentsAreRecovered = (begun life : Life) (steps : List Step) (lines : List (
 -- the step was taken, or refused
 abbrev pub Ended : Step → Life → Life → Type 0
 Ended step life later =
-    ((outputs : List Said) × Takes step life outputs later) ⊎ ((fault : Fault) × RefusesStep step life fault later)
+    ((outputs : List View) × Takes step life outputs later) ⊎ ((fault : Fault) × RefusesStep step life fault later)
 
 -- this has happened to the disks of the peer at this rank
 abbrev pub HasLog : Past → ℕ → Log → Type 0

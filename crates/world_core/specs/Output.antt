@@ -22,43 +22,43 @@ use Rattle.world_core.specs.declared.output.Output.TheVariants.{Stopped as Outpu
 use Rattle.world_core.specs.declared.output.Output.TheVariants.{Mark as OutputMark}
 
 -- One thing that a step reports.
-pub data Said : Type 0 where
+pub data View : Type 0 where
   -- a good line, and what came of it at each peer that it names
-  Owed : (number : ℕ) (peers : List (List ℕ × Answer)) → Said
-  Bad : (number : ℕ) (fault : LineFault) → Said  -- a malformed line
-  Taken : (mark : ℕ) → Said  -- the lines up to this one are acknowledged
-  Connected : (connection : ℕ) (name : List ℕ) → Said  -- a connection was made
-  Handed : (connection : ℕ) (handed : Handing) → Said  -- what became of the least candidate
-  Settled : (connection key : ℕ) (settled : Settling) → Said  -- what became of the debt of this key, which it had
-  SentLine : (connection : ℕ) (line : List ℕ) → Said  -- a line went out
-  Need : (connection : ℕ) (key : ℕ) → Said  -- an article is wanted
-  Closed : (connection : ℕ) (reason : Reason) → Said  -- a connection closed
-  Shed : (name : List ℕ) (keys : List ℕ) → Said  -- what was dropped of a peer's backlog
-  Rotated : (name : List ℕ) (generation : ℕ) → Said  -- a peer's tape was rewritten
-  Imported : (name : List ℕ) (source new : ℕ) → Said  -- a backlog file was imported
-  Stopped : Said  -- all has stopped
-  Mark : (name : List ℕ) (mark : ℕ) (owes : List ℕ) → Said  -- a peer's tape was opened
+  Owed : (number : ℕ) (peers : List (List ℕ × Answer)) → View
+  Bad : (number : ℕ) (fault : LineFault) → View  -- a malformed line
+  Taken : (mark : ℕ) → View  -- the lines up to this one are acknowledged
+  Connected : (connection : ℕ) (name : List ℕ) → View  -- a connection was made
+  Handed : (connection : ℕ) (handed : Handing) → View  -- what became of the least candidate
+  Settled : (connection key : ℕ) (settled : Settling) → View  -- what became of the debt of this key, which it had
+  SentLine : (connection : ℕ) (line : List ℕ) → View  -- a line went out
+  Need : (connection : ℕ) (key : ℕ) → View  -- an article is wanted
+  Closed : (connection : ℕ) (reason : Reason) → View  -- a connection closed
+  Shed : (name : List ℕ) (keys : List ℕ) → View  -- what was dropped of a peer's backlog
+  Rotated : (name : List ℕ) (generation : ℕ) → View  -- a peer's tape was rewritten
+  Imported : (name : List ℕ) (source new : ℕ) → View  -- a backlog file was imported
+  Stopped : View  -- all has stopped
+  Mark : (name : List ℕ) (mark : ℕ) (owes : List ℕ) → View  -- a peer's tape was opened
 
 -- what a value of the program reports
-abbrev pub said_of : Output → Said
-said_of (OutputOwed number peers) = Owed number (map (λ (at : OwedAt). (at.name, at.owed)) peers.items)
-said_of (OutputBad number fault) = Bad number fault
-said_of (OutputTaken mark) = Taken mark
-said_of (OutputConnected connection name) = Connected connection name
-said_of (OutputHanded connection handed) = Handed connection handed
-said_of (OutputSettled connection key settled) = Settled connection key settled
-said_of (OutputSentLine connection line) = SentLine connection line.items
-said_of (OutputNeed connection key) = Need connection key
-said_of (OutputClosed connection reason) = Closed connection reason
-said_of (OutputShed name debts) = Shed name debts.items
-said_of (OutputRotated name generation) = Rotated name generation
-said_of (OutputImported name source new) = Imported name source new
-said_of OutputStopped = Stopped
-said_of (OutputMark name mark owes) = Mark name mark owes.items
+abbrev pub view_of : Output → View
+view_of (OutputOwed number peers) = Owed number (map (λ (at : OwedAt). (at.name, at.owed)) peers.items)
+view_of (OutputBad number fault) = Bad number fault
+view_of (OutputTaken mark) = Taken mark
+view_of (OutputConnected connection name) = Connected connection name
+view_of (OutputHanded connection handed) = Handed connection handed
+view_of (OutputSettled connection key settled) = Settled connection key settled
+view_of (OutputSentLine connection line) = SentLine connection line.items
+view_of (OutputNeed connection key) = Need connection key
+view_of (OutputClosed connection reason) = Closed connection reason
+view_of (OutputShed name debts) = Shed name debts.items
+view_of (OutputRotated name generation) = Rotated name generation
+view_of (OutputImported name source new) = Imported name source new
+view_of OutputStopped = Stopped
+view_of (OutputMark name mark owes) = Mark name mark owes.items
 
 -- what each step reports
-abbrev pub said_by : List (Vec Output) → List (List Said)
-said_by lines = map (λ (outputs : Vec Output). map said_of outputs.items) lines
+abbrev pub views_by : List (Vec Output) → List (List View)
+views_by lines = map (λ (outputs : Vec Output). map view_of outputs.items) lines
 
 -- ---- what is reported of an output, and of a peer
 
@@ -72,16 +72,16 @@ abbrev pub lines_in : List ℕ → List (List ℕ)
 lines_in octets = lines_from [] octets
 
 -- the article that is wanted
-abbrev pub need_said : ℕ → Option ℕ → List Said
-need_said id None = []
-need_said id (Some key) = Need id key ∷ []
+abbrev pub need_view : ℕ → Option ℕ → List View
+need_view id None = []
+need_view id (Some key) = Need id key ∷ []
 
 -- why a connection closed, if it was open before
-abbrev pub closed_said : ℕ → (was now : Option Reason) → List Said
-closed_said id None None = []
-closed_said id None (Some reason) = Closed id reason ∷ []
-closed_said id (Some before) now = []
+abbrev pub closed_view : ℕ → (was now : Option Reason) → List View
+closed_view id None None = []
+closed_view id None (Some reason) = Closed id reason ∷ []
+closed_view id (Some before) now = []
 
 -- a peer whose tape was opened
-abbrev pub mark_said : PeerPast → Said
-mark_said peer = Mark peer.conf.name (mark_at peer.tape) (keys (ledger_at peer.tape))
+abbrev pub mark_view : PeerPast → View
+mark_view peer = Mark peer.conf.name (mark_at peer.tape) (keys (ledger_at peer.tape))

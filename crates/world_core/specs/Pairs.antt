@@ -16,7 +16,7 @@ use Rattle.world_core.specs.Exchange.{AllSettleAt, FailsToOffer, Follows, Follow
 use Rattle.world_core.specs.Exchange.{all_out, one_out, out_to, unsettled, with_transcript}
 use Rattle.world_core.specs.Sound.{numbers_at}
 use Rattle.world_core.specs.Stands.{HoldsTranscript, PeerStands, WaitsWith}
-use Rattle.world_core.specs.Output.{Said, Settled, said_of}
+use Rattle.world_core.specs.Output.{View, Settled, view_of}
 use Rattle.world_core.specs.declared.connection.Connection.{Connection}
 use Rattle.world_core.specs.declared.fault.Fault.{Fault}
 use Rattle.world_core.specs.declared.peer.Peer.{Peer}
@@ -24,8 +24,8 @@ use Rattle.world_core.specs.declared.output.Handed.{Handed as Handover}
 use Rattle.world_core.specs.declared.output.Output.{Output}
 
 -- what is reported of an outcome
-abbrev pub settled_said : ℕ → ℕ → PeerPast → Outcome → Said
-settled_said id now peer outcome = Settled id (key_in outcome) (settling peer now outcome)
+abbrev pub settled_view : ℕ → ℕ → PeerPast → Outcome → View
+settled_view id now peer outcome = Settled id (key_in outcome) (settling peer now outcome)
 
 -- The connection holds at its peer exactly the numbers that it has, and it has none twice.
 pub record IsTied (id : ℕ) (conn : ConnPast) (peer : PeerPast) : Type 0 where
@@ -48,8 +48,8 @@ TakesNext options past (Some outcome) connection =
     × ConnStands options connection.conn past.unread (out_to (past.settled + 1) past.transcript)
 
 -- these are added to what was reported
-abbrev pub Tells : List Output → List Said → List Output → Type 0
-Tells was said outputs = map said_of outputs ≡ map said_of was ++ said
+abbrev pub Tells : List Output → List View → List Output → Type 0
+Tells was said outputs = map view_of outputs ≡ map view_of was ++ said
 
 module _ {D : Type 0} {g : Ghosts D} where
   -- a connection of this number and its peer stand for these, and are tied
@@ -63,9 +63,9 @@ module _ {D : Type 0} {g : Ghosts D} where
     pub tied : IsTied id conn past
 
   -- a step made this of the connection and its peer, and was reported
-  pub record PairMade (T : List Said → ConnPast → PeerPast → Type 0) (id : ℕ) (before : List Output)
+  pub record PairMade (T : List View → ConnPast → PeerPast → Type 0) (id : ℕ) (before : List Output)
       (connection : Connection) (peer : Peer D g) (outputs : List Output) : Type 0 where
-    pub said : List Said
+    pub said : List View
     pub later_conn : ConnPast
     pub later : PeerPast
     pub makes : T said later_conn later
@@ -88,7 +88,7 @@ module _ {D : Type 0} {g : Ghosts D} where
         ≡ outcome ∷ unsettled (options_of past.conf) (one_out conn)
     pub later : PeerPast
     pub settles : SettlesAt id now outcome past later
-    pub outputs_are : Tells was (settled_said id now past outcome ∷ []) outputs
+    pub outputs_are : Tells was (settled_view id now past outcome ∷ []) outputs
     pub stand : PairStands id (one_out conn) later connection peer
 
   -- there was none
@@ -118,7 +118,7 @@ module _ {D : Type 0} {g : Ghosts D} where
     pub split : unsettled (options_of past.conf) conn ≡ done ++ unsettled (options_of past.conf) (all_out done conn)
     pub settles : AllSettleAt id now past done later
     pub same_conf : later.conf ≡ past.conf
-    pub outputs_are : Tells was (map (settled_said id now past) done) outputs
+    pub outputs_are : Tells was (map (settled_view id now past) done) outputs
     pub stand : PairStands id (all_out done conn) later connection peer
 
   -- all outcomes did, and none waits

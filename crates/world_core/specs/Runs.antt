@@ -10,7 +10,7 @@ use Rattle.world_core.specs.Exchange.{RefusesOn, RefusesTick, TakesArticle, Take
 use Rattle.world_core.specs.Exchange.{TakesHand, TakesTick}
 use Rattle.world_core.specs.Halts.{RefusesRestart, RefusesStop, Strikes, StrikesUnreported, TakesRestart, TakesStop}
 use Rattle.world_core.specs.Sound.{IsSoundLife}
-use Rattle.world_core.specs.Output.{Said}
+use Rattle.world_core.specs.Output.{View}
 use Rattle.world_core.specs.declared.fault.Fault.{Fault}
 use Rattle.world_core.specs.declared.fault.Fault.TheVariants.{Stopped}
 use Rattle.world_core.specs.declared.step.Step.{Step}
@@ -18,16 +18,16 @@ use Rattle.world_core.specs.declared.step.Step.TheVariants.{Line, Flush, Begin, 
 use Rattle.world_core.specs.declared.step.Step.TheVariants.{Article, Break, Tick, Shed, Import, Rotate, Stop, Restart}
 
 -- the world runs, and the step makes this of all tapes; all else stays
-abbrev pub OnTapes : (Past → List Said → Past → Type 0) → Life → List Said → Life → Type 0
+abbrev pub OnTapes : (Past → List View → Past → Type 0) → Life → List View → Life → Type 0
 OnTapes T life outputs later =
     (life.running ≡ true) × ((past : Past) × T life.past outputs past × (later ≡ with_past life past))
 
 -- the world runs, and the step makes this of it
-abbrev pub OnWorld : (Life → List Said → Life → Type 0) → Life → List Said → Life → Type 0
+abbrev pub OnWorld : (Life → List View → Life → Type 0) → Life → List View → Life → Type 0
 OnWorld T life outputs later = (life.running ≡ true) × T life outputs later
 
 -- what a step makes of a world, and reports, if no stop is met
-abbrev pub Does : Step → Life → List Said → Life → Type 0
+abbrev pub Does : Step → Life → List View → Life → Type 0
 Does (Line text) life outputs later = OnTapes (TakesLine text.items) life outputs later
 Does Flush life outputs later = OnTapes TakesFlush life outputs later
 Does Begin life outputs later = OnTapes TakesBegin life outputs later
@@ -46,7 +46,7 @@ Does (Stop peer call choice) life outputs later = TakesStop peer call choice lif
 Does Restart life outputs later = TakesRestart life outputs later
 
 -- what a step makes of a world, and reports: its own, or that of a stop that is met in it
-abbrev pub Takes : Step → Life → List Said → Life → Type 0
+abbrev pub Takes : Step → Life → List View → Life → Type 0
 Takes step life outputs later = Does step life outputs later ⊎ Strikes step life outputs later
 
 -- ---- refusals
@@ -90,9 +90,9 @@ RefusesStep step life fault later = Refuses step life fault later ⊎ StrikesUnr
 -- These steps were taken, one after another, and this is what each reported. Before and after each step the world is
 -- sound, and whatever a stop leaves is safe; it is also safe after each event in a step, and at each moment within an
 -- event.
-pub data Runs (begun : Life) : List Step → List (List Said) → Life → Type 0 where
+pub data Runs (begun : Life) : List Step → List (List View) → Life → Type 0 where
   Start : IsSafe begun.past → IsSoundLife begun → Runs begun [] [] begun
-  Next : (steps : List Step) (step : Step) (lines : List (List Said)) (outputs : List Said) (life later : Life)
+  Next : (steps : List Step) (step : Step) (lines : List (List View)) (outputs : List View) (life later : Life)
       → Runs begun steps lines life
       → Takes step life outputs later → IsSafe later.past → IsSoundLife later
       → Runs begun (steps ++ step ∷ []) (lines ++ outputs ∷ []) later

@@ -32,7 +32,7 @@ use Rattle.world_core.specs.Events.{shed_peer}
 use Rattle.world_core.specs.Runs.{RefusesStep, Runs}
 use Rattle.world_core.specs.Sound.{IsSound, IsSoundLife}
 use Rattle.world_core.specs.StopDisk.{all_faults, happened}
-use Rattle.world_core.specs.Output.{Said, said_by}
+use Rattle.world_core.specs.Output.{View, views_by}
 use Rattle.world_core.specs.declared.connection.Connection.{Connection}
 use Rattle.world_core.specs.declared.fault.Fault.{Fault}
 use Rattle.world_core.specs.declared.fault.Fault.TheVariants.{NoMemory, Tape as TapeRefused}
@@ -281,7 +281,7 @@ pub record WasNotMade (fault : WorldFault) : Type 0 where
   pub kind : (fault.kind ≡ TapeRefused Disk) ⊎ (fault.kind ≡ NoMemory)
 
 -- the steps were taken, this is what each reported, and the world stands for what they made
-pub record Ran (steps : List Step) (life : Life) (lines : List (List Said)) (world : World) : Type 0 where
+pub record Ran (steps : List Step) (life : Life) (lines : List (List View)) (world : World) : Type 0 where
   pub later : Life
   pub runs : Runs life steps lines later
   pub stands : WorldStands world later
@@ -294,7 +294,7 @@ pub record WasRefused (steps : List Step) (life : Life) (fault : WorldFault) (wo
   pub step : Step
   pub here : slice_get steps index ≡ Some step
   pub mid : Life
-  pub runs : Runs life (take index steps) (said_by fault.lines.items) mid
+  pub runs : Runs life (take index steps) (views_by fault.lines.items) mid
   pub later : Life
   pub refuses : RefusesStep step mid fault.kind later
   pub safe : IsSafe later.past
@@ -321,7 +321,7 @@ counts_in totals = map (λ (peer : PeerTotals). (peer.name, peer.totals)) totals
 -- ---- the contract of `World::run`
 
 -- the run returned these lines and counts; or a step was refused, or there was no room
-abbrev pub Reports : List Step → World → List (List Said) → List (List ℕ × Totals) → World → Type 0
+abbrev pub Reports : List Step → World → List (List View) → List (List ℕ × Totals) → World → Type 0
 Reports steps old lines counts new = (life : Life) → WorldStands old life
     → (ran : Ran steps life lines new) × (counts ≡ counts_of ran.later)
 

@@ -12,7 +12,7 @@ use Rattle.world_core.specs.Opening.{FailsAt}
 use Rattle.world_core.specs.Events.{AllDo, Event, Fails, Parts, calls_disk, each_rank}
 use Rattle.world_core.specs.Steps.{is_named, line_events, owed_there}
 use Rattle.world_core.specs.Stands.{Stands}
-use Rattle.world_core.specs.Output.{Mark, Said, said_of}
+use Rattle.world_core.specs.Output.{Mark, View, view_of}
 use Rattle.world_core.specs.declared.fault.Fault.{Fault}
 use Rattle.world_core.specs.declared.fault.Fault.TheVariants.{Tape}
 use Rattle.world_core.specs.declared.fault.Halt.{Halt}
@@ -46,8 +46,8 @@ FoundAt past name (Some rank) = (peer : PeerPast) × (slice_get past.peers rank 
 
 module _ {D : Type 0} {g : Ghosts D} where
   -- what is reported of a peer whose tape was opened
-  abbrev pub opened_said : Peer D g → Said
-  opened_said peer = Mark peer.conf.name (ledger_of peer.station).mark (keys (ledger_of peer.station))
+  abbrev pub opened_view : Peer D g → View
+  opened_view peer = Mark peer.conf.name (ledger_of peer.station).mark (keys (ledger_of peer.station))
 
   -- ---- events
 
@@ -84,11 +84,11 @@ module _ {D : Type 0} {g : Ghosts D} where
   -- ---- steps
 
   -- the step was taken, and reported this
-  pub record Took (T : Past → List Said → Past → Type 0) (past : Past) (outputs : List Output) (stations : Stations D
+  pub record Took (T : Past → List View → Past → Type 0) (past : Past) (outputs : List Output) (stations : Stations D
       g) :
       Type 0 where
     pub later : Past
-    pub takes : T past (map said_of outputs) later
+    pub takes : T past (map view_of outputs) later
     pub stands : Stands stations later
 
   -- the step was refused

@@ -13,7 +13,7 @@ use Rattle.world_core.specs.Past.{Past, PeerPast, mark_at, rank_of, with_last}
 use Rattle.world_core.specs.Events.{Acknowledges, AllDo, Event, Fails, Owes, Parts, Rotates, Sees, Sheds, each_rank}
 use Rattle.world_core.specs.Events.{import_mark_at, open_source, owed_as}
 use Rattle.world_core.specs.Imports.{IsImport, count_new}
-use Rattle.world_core.specs.Output.{Bad, Imported, Owed, Rotated, Said, Shed, Taken}
+use Rattle.world_core.specs.Output.{Bad, Imported, Owed, Rotated, View, Shed, Taken}
 use Rattle.world_core.specs.declared.fault.Fault.{Fault}
 use Rattle.world_core.specs.declared.fault.Fault.TheVariants.{CountFull, NoMemory, NoPeer, NotFlushed}
 
@@ -74,7 +74,7 @@ abbrev pub IsReading : List ℕ → Reading → Type 0
 IsReading text (Good token id named) = IsFunnelLine text token id named
 IsReading text (NotGood fault) = HasFault text fault × (fault ≢ NoLineMemory)
 
-abbrev pub TakesReading : Reading → Past → List Said → Past → Type 0
+abbrev pub TakesReading : Reading → Past → List View → Past → Type 0
 TakesReading (Good token id named) past outputs later =
     (outputs ≡ Owed (past.last + 1) (owed_there (past.last + 1) named past.peers) ∷ [])
     × ((mid : Past) × AllDo past (line_events token id named past) mid × (later ≡ with_last mid (past.last + 1)))
@@ -83,40 +83,40 @@ TakesReading (NotGood fault) past outputs later = (outputs ≡ Bad (past.last + 
 
 -- ---- what each step makes of all tapes, and reports
 
-pub record TakesLine (text : List ℕ) (past : Past) (outputs : List Said) (later : Past) : Type 0 where
+pub record TakesLine (text : List ℕ) (past : Past) (outputs : List View) (later : Past) : Type 0 where
   pub fits : past.last + 1 < 2 ^ 64
   pub reading : Reading
   pub reads : IsReading text reading
   pub takes : TakesReading reading past outputs later
 
-abbrev pub TakesBegin : Past → List Said → Past → Type 0
+abbrev pub TakesBegin : Past → List View → Past → Type 0
 TakesBegin past outputs later = (outputs ≡ []) × (later ≡ begun_at past)
 
-abbrev pub TakesPart : List ℕ → Past → List Said → Past → Type 0
+abbrev pub TakesPart : List ℕ → Past → List View → Past → Type 0
 TakesPart name past outputs later =
     (rank : ℕ) × (rank_of past name ≡ Some rank) × AllDo past (Parts rank ∷ []) later × (outputs ≡ [])
 
-abbrev pub TakesSeal : Past → List Said → Past → Type 0
+abbrev pub TakesSeal : Past → List View → Past → Type 0
 TakesSeal past outputs later =
     (number : ℕ) × IsSealable past number × AllDo past (seal_events number) later
     × (outputs ≡ Taken (mark_at later.intake) ∷ [])
 
-abbrev pub TakesFlush : Past → List Said → Past → Type 0
+abbrev pub TakesFlush : Past → List View → Past → Type 0
 TakesFlush past outputs later = AllDo (begun_at past) (flush_events past) later
     × (outputs ≡ Taken (mark_at later.intake) ∷ [])
 
-abbrev pub TakesShed : List ℕ → Past → List Said → Past → Type 0
+abbrev pub TakesShed : List ℕ → Past → List View → Past → Type 0
 TakesShed name past outputs later =
     (rank : ℕ) × (numbers : List ℕ) × (rank_of past name ≡ Some rank) × AllDo past (Sheds rank numbers ∷ []) later
     × (outputs ≡ Shed name numbers ∷ [])
 
-abbrev pub TakesRotate : List ℕ → Past → List Said → Past → Type 0
+abbrev pub TakesRotate : List ℕ → Past → List View → Past → Type 0
 TakesRotate name past outputs later =
     (rank generation : ℕ) × (rank_of past name ≡ Some rank) × AllDo past (Rotates rank generation ∷ []) later
     × (outputs ≡ Rotated name generation ∷ [])
 
 -- what is reported: the source under which the lines are owed, and how many of them are new
-abbrev pub TakesImport : (name text : List ℕ) → Past → List Said → Past → Type 0
+abbrev pub TakesImport : (name text : List ℕ) → Past → List View → Past → Type 0
 TakesImport name text past outputs later =
     (events : List Event) × (is : IsImport name text past events) × AllDo past events later
     × (outputs ≡ Imported name (open_source is.peer) (count_new (import_mark_at is.peer) is.lines) ∷ [])

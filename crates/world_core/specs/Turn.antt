@@ -9,7 +9,7 @@ use Rattle.world_core.specs.Opening.{FailsAt}
 use Rattle.world_core.specs.Runs.{Does, Refuses, RefusesStep, Takes}
 use Rattle.world_core.specs.Sound.{IsSoundLife}
 use Rattle.world_core.specs.Stands.{WorldStands, armed_as}
-use Rattle.world_core.specs.Output.{Said, Stopped as SaidStopped, said_of}
+use Rattle.world_core.specs.Output.{View, Stopped as SaidStopped, view_of}
 use Rattle.world_core.specs.declared.fault.Fault.{Fault}
 use Rattle.world_core.specs.declared.fault.Fault.TheVariants.{NoMemory, Stopped as HasStopped, Tape}
 use Rattle.world_core.specs.declared.fault.Halt.{Halt}
@@ -23,7 +23,7 @@ use Rattle.world_core.specs.declared.world.World.{World}
 -- the step was taken, and reported this
 pub record Took (step : Step) (life : Life) (outputs : List Output) (world : World) : Type 0 where
   pub later : Life
-  pub takes : Takes step life (map said_of outputs) later
+  pub takes : Takes step life (map view_of outputs) later
   pub stands : WorldStands world later
 
 -- the step was refused
@@ -35,7 +35,7 @@ pub record WasNotTaken (step : Step) (life : Life) (fault : Fault) (world : Worl
 -- the step was taken, and reported this; no stop was met
 pub record Did (step : Step) (life : Life) (outputs : List Output) (world : World) : Type 0 where
   pub later : Life
-  pub does : Does step life (map said_of outputs) later
+  pub does : Does step life (map view_of outputs) later
   pub stands : WorldStands world later
 
 -- the names of a world's peers, in order
@@ -44,10 +44,10 @@ names_at (Running stations connections) = map (λ peer. peer.conf.name) stations
 names_at (Stopped peers intake) = map (λ (peer : StoppedPeer). peer.conf.name) peers.items
 
 -- a step makes this of the world, and reports this
-pub record Made (T : Life → List Said → Life → Type 0) (life : Life) (outputs : List Output) (world : World) : Type 0
+pub record Made (T : Life → List View → Life → Type 0) (life : Life) (outputs : List Output) (world : World) : Type 0
   where
     pub later : Life
-    pub makes : T life (map said_of outputs) later
+    pub makes : T life (map view_of outputs) later
     pub stands : WorldStands world later
 
 -- a step is refused
@@ -57,7 +57,7 @@ pub record Refused (R : Life → Fault → Life → Type 0) (life : Life) (fault
   pub stands : WorldStands world later
 
 -- what a stop at rest does, and how it is refused
-abbrev pub TakesRest : Life → List Said → Life → Type 0
+abbrev pub TakesRest : Life → List View → Life → Type 0
 TakesRest life outputs later = (life.running ≡ true) × (outputs ≡ SaidStopped ∷ []) × (later
     ≡ halted AtRest life.past life)
 
@@ -92,7 +92,7 @@ pub record WasHalted (step : Step) (life : Life) (halt : Halt) (world : World) :
 -- a stop was met, and reported
 pub record WasStruck (life : Life) (under_way : Past) (choice : Choice) (outputs : List Output) (world : World) :
     Type 0 where
-  pub outputs_are : map said_of outputs ≡ SaidStopped ∷ []
+  pub outputs_are : map view_of outputs ≡ SaidStopped ∷ []
   pub stands : WorldStands world (halted (ByChoice choice) under_way life)
 
 -- Or there was no memory for what its choice leaves, and all has stopped as at rest; or there was none to stop either,

@@ -8,7 +8,7 @@ ghost use Rattle.conn_core.specs.declared.reason.Reason.{Reason};
 ghost use Rattle.world_core.specs.Past.{ConnPast, PeerPast, options_of};
 ghost use Rattle.world_core.specs.Pairs.{Tells, left_at};
 ghost use Rattle.world_core.specs.Stands.{WaitsWith};
-ghost use Rattle.world_core.specs.Output.{SentLine, closed_said, lines_in, need_said};
+ghost use Rattle.world_core.specs.Output.{SentLine, closed_view, lines_in, need_view};
 
 use crate::fault::Fault;
 use crate::output::{Handed, Output};
@@ -362,7 +362,7 @@ fn add_sent(outputs: &mut Vec<Output>, connection: u64, output: &[u8]) -> Result
 }
 
 fn add_need(outputs: &mut Vec<Output>, connection: u64, need: Option<Key>) -> Result<(), AllocError>
-    ensures { OnOk result (Tells outputs.old.items (need_said connection need) outputs.new.items) }
+    ensures { OnOk result (Tells outputs.old.items (need_view connection need) outputs.new.items) }
 {
     if let Some(key) = need {
         outputs.push(Output::Need { connection, key })?;
@@ -378,7 +378,7 @@ fn add_closed(
     closed: Option<Reason>,
 ) -> Result<(), AllocError>
     ensures { (was : Option Reason) → was_open ≡ is_none was → OnOk result
-        (Tells outputs.old.items (closed_said connection was closed) outputs.new.items) }
+        (Tells outputs.old.items (closed_view connection was closed) outputs.new.items) }
 {
     if was_open && let Some(reason) = closed {
         outputs.push(Output::Closed { connection, reason })?;

@@ -10,7 +10,7 @@ ghost use Rattle.world_core.specs.Moments.{AllMomentsAreRecovered, CallsNoOther}
 ghost use Rattle.world_core.specs.Past.{Life, Past, PeerPast};
 ghost use Rattle.world_core.specs.Safe.{IsSafe};
 ghost use Rattle.world_core.specs.Stands.{Ran, WasRefused, WorldStands};
-ghost use Rattle.world_core.specs.Output.{Said, said_by};
+ghost use Rattle.world_core.specs.Output.{View, views_by};
 
 use crate::fault::WorldFault;
 use crate::step::Step;
@@ -44,14 +44,14 @@ pub fn each_run_comes_about()
     ensures begins { (life : Life) (world : World) → WorldStands world life
         → Comes life [] [] life }
     ensures reports { (begun life : Life) (before steps : List Step)
-        (outputs lines : List (List Said)) (new : World)
+        (outputs lines : List (List View)) (new : World)
         → Comes begun before outputs life → (ran : Ran steps life lines new)
         → Comes begun (before ++ steps) (outputs ++ lines) ran.later }
     ensures ends { (begun life : Life) (before steps : List Step)
-        (outputs : List (List Said)) (fault : WorldFault) (new : World)
+        (outputs : List (List View)) (fault : WorldFault) (new : World)
         → Comes begun before outputs life → (was : WasRefused steps life fault new)
         → Comes begun (before ++ take (was.index + 1) steps)
-        (outputs ++ said_by fault.lines.items) was.later }
+        (outputs ++ views_by fault.lines.items) was.later }
 {}
 
 /// Over any steps, taken or refused, stops and restarts among them, the acknowledged notes of each peer stay

@@ -4,7 +4,7 @@ ghost use Rattle.std.specs.Prelude.{OnOk};
 ghost use Rattle.ledger_core.specs.Keys.{key_text};
 ghost use Rattle.world_core.specs.Lines.{handed_text, keys_text, line_text, owed_text};
 ghost use Rattle.world_core.specs.Lines.{reason_text, settled_text, output_text};
-ghost use Rattle.world_core.specs.Output.{said_of};
+ghost use Rattle.world_core.specs.Output.{view_of};
 ghost use Rattle.world_core.specs.declared.output.OwedAt.{OwedAt};
 
 use crate::output::{Handed, Output, OwedAt};
@@ -19,7 +19,7 @@ impl Output {
     /// # Errors
     /// Memory was refused.
     pub fn line(&self, alloc: Global) -> Result<Vec<u8>, AllocError>
-        ensures { IfOk result (λ line. line.items ≡ line_text (said_of self.now)) }
+        ensures { IfOk result (λ line. line.items ≡ line_text (view_of self.now)) }
     {
         let mut line = Vec::new(alloc);
         add_output(&mut line, self)?;
@@ -29,7 +29,7 @@ impl Output {
 }
 
 fn add_output(out: &mut Vec<u8>, outputs: &Output) -> Result<(), AllocError>
-    ensures { OnOk result (out.new.items ≡ out.old.items ++ output_text (said_of outputs.now)) }
+    ensures { OnOk result (out.new.items ≡ out.old.items ++ output_text (view_of outputs.now)) }
 {
     match outputs {
         Output::Owed { number, peers } => {

@@ -4,8 +4,8 @@ ghost use Rattle.std.specs.Prelude.{List, map, vec_capacity, vec_len};
 ghost use Rattle.world_core.specs.Halting.{TapesStop};
 ghost use Rattle.world_core.specs.Opening.{AllOpen, OpensNot};
 ghost use Rattle.world_core.specs.Past.{Past};
-ghost use Rattle.world_core.specs.Stepped.{opened_said};
-ghost use Rattle.world_core.specs.Output.{said_of};
+ghost use Rattle.world_core.specs.Stepped.{opened_view};
+ghost use Rattle.world_core.specs.Output.{view_of};
 
 use crate::fault::{Fault, Halt};
 use crate::halt::halt_each;
@@ -235,7 +235,7 @@ pub(crate) fn rooms_for(alloc: Global, count: usize) -> Result<Rooms, AllocError
 }
 
 fn tell_marks(alloc: Global, peers: &[Peer<StopDisk>]) -> Result<Vec<Output>, AllocError>
-    ensures { IfOk result (λ outputs. map said_of outputs.items ≡ map opened_said peers.now) }
+    ensures { IfOk result (λ outputs. map view_of outputs.items ≡ map opened_view peers.now) }
 {
     let mut outputs = Vec::new(alloc);
     for peer in peers {
@@ -245,7 +245,7 @@ fn tell_marks(alloc: Global, peers: &[Peer<StopDisk>]) -> Result<Vec<Output>, Al
 }
 
 fn mark_of(peer: &Peer<StopDisk>) -> Result<Output, AllocError>
-    ensures { IfOk result (λ outputs. said_of outputs ≡ opened_said peer.now) }
+    ensures { IfOk result (λ outputs. view_of outputs ≡ opened_view peer.now) }
 {
     let name = peer.conf.name.clone()?;
     let mark = peer.station.mark();

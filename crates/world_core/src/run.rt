@@ -29,7 +29,7 @@ impl World {
     ghost use Rattle.world_core.specs.Past.{Life};
     ghost use Rattle.world_core.specs.Stands.{Ends, Reports, WorldStands, counts_of};
     ghost use Rattle.world_core.specs.Sound.{names_of};
-    ghost use Rattle.world_core.specs.Output.{said_by};
+    ghost use Rattle.world_core.specs.Output.{views_by};
     ghost use Rattle.world_core.specs.Turn.{Took, WasNotTaken, names_at};
 
     /// Takes these steps, one after another, up to the first that is refused, and returns what each reported, and each
@@ -42,7 +42,7 @@ impl World {
     /// is refused for the report itself, the first step is the one refused, and none was taken.
     pub fn run(&mut self, steps: &[Step]) -> Result<Report, WorldFault>
         ensures reports { IfOk result
-            (λ report. Reports steps.now self.old (said_by report.lines.items)
+            (λ report. Reports steps.now self.old (views_by report.lines.items)
             (counts_in report.totals.items) self.new) }
         ensures ends { IfErr result (λ fault. Ends steps.now self.old fault self.new) }
     {

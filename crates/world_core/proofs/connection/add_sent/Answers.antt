@@ -1,5 +1,5 @@
 use Rattle.std.proofs.Common.{◌++◌, map, sym, ap, ◌∙◌, append-nil}
-use Rattle.world_core.specs.Output.{SentLine, said_of}
+use Rattle.world_core.specs.Output.{SentLine, view_of}
 use Rattle.world_core.proofs.OutputLines.{no_line, tells_line}
 use Rattle.world_core.proofs.connection.add_sent.Goals as goal
 
@@ -12,7 +12,7 @@ loop-line-preserved c =
 
 pub returns : goal.returns
 returns c =
-    sym (append-nil (map said_of c.loop-line.outputs.items))
-    ∙ ap (λ ls. map said_of c.loop-line.outputs.items ++ map (SentLine c.args.connection) ls)
+    sym (append-nil (map view_of c.loop-line.outputs.items))
+    ∙ ap (λ ls. map view_of c.loop-line.outputs.items ++ map (SentLine c.args.connection) ls)
     (sym (no_line c.loop-line.rest.now c.in_default.ensures.line))
     ∙ c.loop-line.invariant

@@ -1,7 +1,7 @@
 -- One more connection, after all others.
 use Rattle.std.proofs.Common.{◌≡◌, ◌∙◌, ◌+◌, ◌<◌, ◌^◌, ◌++◌, ◌∷◌, [], ap, arith, refl, rules, sym}
 use Rattle.world_core.specs.declared.output.Output.TheVariants.{Connected as OutputConnected}
-use Rattle.world_core.specs.Output.{Connected, Said, said_of}
+use Rattle.world_core.specs.Output.{Connected, View, view_of}
 use Rattle.std.specs.Prelude.{map}
 use Rattle.world_core.proofs.ConnectionMade.{connect_absent, connect_full, connect_memory, connected_made}
 use Rattle.world_core.proofs.Results.{if_err}
@@ -77,6 +77,6 @@ returns-clause-ok g c = λ life running same.
     (c.push_reserved.ensures.items ∙ ap (λ l. l ++ c.in_ok-connection.connection ∷ []) c.in_ok-reserve-2.ensures.items)
     (tells_push c.args.outputs.now.items _ _ (OutputConnected c.in-Some-checked_add.number c.in_ok-name.name)
     c.in_ok-reserve.ensures.items c.push_reserved-2.ensures.items
-    ∙ ap (λ (said : Said). map said_of c.args.outputs.now.items ++ said ∷ [])
+    ∙ ap (λ (said : View). map view_of c.args.outputs.now.items ++ said ∷ [])
     (ap (λ n. Connected n c.in_ok-name.name) is
     ∙ ap (λ name. Connected (life.connected + 1) name) c.in_ok-name.ensures.cases))

@@ -1,5 +1,5 @@
 use Rattle.std.proofs.Common.{map, refl, ap, ◌∙◌, inl}
-use Rattle.world_core.specs.Output.{said_of}
+use Rattle.world_core.specs.Output.{view_of}
 use Rattle.world_core.proofs.WorldReopened.{runs_stage}
 use Rattle.world_core.proofs.TapeSteps.{pushed}
 use Rattle.world_core.proofs.world.World.rest.Goals as goal
@@ -11,7 +11,7 @@ returns-clause-ok c = λ life stands.
       later = _;
       makes = (
         runs,
-        ap (map said_of)
+        ap (map view_of)
             (pushed _ _ _ c.push_reserved.ensures.items (c.reserve.ensures.items ∙ c.requires)),
         refl,
       );

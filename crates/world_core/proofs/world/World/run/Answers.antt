@@ -3,7 +3,7 @@ use Rattle.std.proofs.Common.{◌≡◌, ◌∙◌, ◌++◌, ◌∷◌, [], Lis
 use Rattle.std.proofs.lemmas.List.{take_all, take_more}
 use Rattle.std.proofs.lemmas.Option.{slice_get_read}
 use Rattle.world_core.specs.Stands.{Ran}
-use Rattle.world_core.specs.Output.{said_by}
+use Rattle.world_core.specs.Output.{views_by}
 use Rattle.world_core.specs.declared.step.Step.{Step}
 use Rattle.world_core.proofs.NamesOverRuns.{names_runs, names_stage}
 use Rattle.world_core.proofs.Runs.{ran_more, ran_none, was_refused}
@@ -49,8 +49,8 @@ returns-clause-reports c = λ life stands.
     let loop = c.loop-index in
     let steps = c.args.steps.now in
     let all : take loop.index steps ≡ steps = take_all loop.index steps (omega (arith, c.loop-index-test.false)) in
-    let ran = subst (λ (s : List Step). Ran s life (said_by loop.lines.items) loop.self) all
+    let ran = subst (λ (s : List Step). Ran s life (views_by loop.lines.items) loop.self) all
     (loop.invariant.ran life stands) in
     let names = c.in-Ok.ensures.names ∙ names_stage c.args.self.now life stands
-    ∙ sym (names_runs life ran.later steps (said_by loop.lines.items) ran.runs) in
+    ∙ sym (names_runs life ran.later steps (views_by loop.lines.items) ran.runs) in
     (ran, c.counts-totals.ensures ran.later ran.stands names)
