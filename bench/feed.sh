@@ -93,9 +93,9 @@ cell_ratios() {
     for ((turn = 0; turn < runs; turn++)); do
       for way in backlog funnel; do
         "from_$way" "$ours" "$connections" >>"ours.$way"
-        spent >>"ours.$way.spent"
+        echo "$(spent)" >>"ours.$way.spent"
         "from_$way" "$BEFORE/crates/innfeed/out/innfeed" "$connections" >>"theirs.$way"
-        spent >>"theirs.$way.spent"
+        echo "$(spent)" >>"theirs.$way.spent"
       done
     done
     for way in backlog funnel; do
