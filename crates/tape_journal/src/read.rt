@@ -9,7 +9,7 @@ ghost use Rattle.tape_journal.specs.Segment.{Ends, IsRecord, IsCutShort, IsDamag
 ghost use Rattle.tape_journal.specs.Part.{IsPart};
 ghost use Rattle.tape_journal.specs.Window.{Shows, room_of};
 
-use crate::window::Window;
+use crate::window::{Window, fill};
 use crate::{OpenFault, PeekFault};
 use disk_model::Disk;
 use std::alloc::Global;
@@ -52,8 +52,13 @@ fn octets_at<D: Disk>(
         → IsErrOf result OpenFault.Disk → HasRisen (D.faults_of disk.old) (D.faults_of disk.new) }
     ensures quiet { OnOk result (D.faults_of disk.new ≡ D.faults_of disk.old) }
 {
+    if window.has_room(count) {
+        let from = window.hold(disk, at, count)?;
+        let octets = Vec::from_slice(alloc, window.lend(from, count))?;
+        return Ok(octets);
+    }
     let mut octets = vec![in alloc; 0u8; count]?;
-    window.fill(disk, at, &mut octets)?;
+    fill(disk, at, &mut octets)?;
     Ok(octets)
 }
 
@@ -110,9 +115,14 @@ pub(crate) fn head_at<D: Disk>(
     ensures quiet { OnOk result (D.faults_of disk.new ≡ D.faults_of disk.old) }
 {
     let left = len - at;
+    let count = left.min(RECORD_HEAD_OCTETS) as usize;
+    if window.has_room(count) {
+        let from = window.hold(disk, at, count)?;
+        return Ok(head_of(window.lend(from, count), left));
+    }
     let mut octets = [0u8; 5];
-    let first = &mut octets[..left.min(RECORD_HEAD_OCTETS) as usize];
-    window.fill(disk, at, first)?;
+    let first = &mut octets[..count];
+    fill(disk, at, first)?;
     Ok(head_of(first, left))
 }
 
