@@ -49,7 +49,7 @@ impl Flush {
 impl<D: Disk, N: Naming> TapeDesk<D, N> {
     ghost use Rattle.std.specs.Prelude.{◌-◌, ◌^◌, ◌↔◌, ◌⊎◌, None};
     ghost use Rattle.std.specs.Prelude.{IfErr, IfOk, IsErrOf, IsSome, IsTrue, OnOk};
-    ghost use Rattle.flusher.specs.Flushes.{TellsOf};
+    ghost use Rattle.flusher.specs.Flushes.{IsFlushOf};
     ghost use Rattle.flusher.specs.Room.{TapeHasNoRoom};
     ghost use Rattle.ledger_core.specs.State.{IsOwed};
     ghost use Rattle.note_queue.specs.Calls.{TakesMore};
@@ -73,7 +73,7 @@ impl<D: Disk, N: Naming> TapeDesk<D, N> {
     /// Puts the notes that pend on the disks. If there is no room for them after what is there, much of which may be
     /// notes of debts that have long ended, the tape is rewritten, the notes that pend included.
     pub fn flush(&mut self) -> Result<Flush, TapeFault>
-        ensures told { IfOk result (TellsOf (tape_of self.new.side)) }
+        ensures ok { IfOk result (IsFlushOf (tape_of self.new.side)) }
         ensures full { IsErrOf result TapeFault.TapeFull
             → TapeHasNoRoom (tape_of self.old.side) }
         ensures keeps { IsSameEnd self.old.side self.new.side }
@@ -87,7 +87,7 @@ impl<D: Disk, N: Naming> TapeDesk<D, N> {
 
     // Flushes the tape, if there is room for what pends.
     fn flush_once(&mut self) -> Result<Flush, TapeFault>
-        ensures told { IfOk result (TellsOf (tape_of self.new.side)) }
+        ensures ok { IfOk result (IsFlushOf (tape_of self.new.side)) }
         ensures full { IsErrOf result TapeFault.TapeFull → IsFull (tape_of self.old.side)
             × (tape_of self.new.side ≡ tape_of self.old.side) }
         ensures keeps { IsSameEnd self.old.side self.new.side }
@@ -103,7 +103,7 @@ impl<D: Disk, N: Naming> TapeDesk<D, N> {
 
     // Rewrites the tape, instead of a flush for which there is no room. The faults are those of a flush.
     fn rotate_full(&mut self) -> Result<Flush, TapeFault>
-        ensures told { IfOk result (TellsOf (tape_of self.new.side)) }
+        ensures ok { IfOk result (IsFlushOf (tape_of self.new.side)) }
         ensures full { IsErrOf result TapeFault.TapeFull
             → (generation_of (tape_of self.old.side) ≡ 2 ^ 64 - 1)
             ⊎ RotatesTooLong (tape_of self.old.side) }
@@ -126,7 +126,7 @@ impl<D: Disk, N: Naming> TapeDesk<D, N> {
     /// Rewrites the tape, the notes that pend included. A flush follows, which calls no disk, and returns what is on
     /// the tape.
     pub fn rotate(&mut self) -> Result<Flush, TapeFault>
-        ensures told { IfOk result (TellsOf (tape_of self.new.side)) }
+        ensures ok { IfOk result (IsFlushOf (tape_of self.new.side)) }
         ensures generation_full { IsErrOf result TapeFault.GenerationFull
             → generation_of (tape_of self.old.side) ≡ 2 ^ 64 - 1 }
         ensures full { IsErrOf result TapeFault.TapeFull → RotatesTooLong (tape_of self.old.side) }
