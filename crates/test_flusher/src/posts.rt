@@ -197,7 +197,7 @@ fn what_is_not_sent_comes_again(rt: HostRuntime) -> Result<(), Fail> {
 }
 
 // How many notes may pend at a station, and half of them.
-const MOST: u64 = 65_536;
+const PENDING_MAX_NOTES: u64 = 65_536;
 
 const HALF_FULL_NOTES: u64 = 32_768;
 
@@ -247,7 +247,7 @@ fn fill<D: Disk + Drop, N: Naming, R: Wait>(
         return Err(Fail::from("two peers"));
     }
     let mut half = (false, false, false);
-    for number in 1..=MOST {
+    for number in 1..=PENDING_MAX_NOTES {
         take(rt, &post, b"a/1 <x@y> q", &mut lines)?;
         if number == HALF_FULL_NOTES - 1 {
             half.0 = post.take_half_full(1);
@@ -297,8 +297,8 @@ fn a_line_refused_at_its_second_peer_is_taken_once(rt: HostRuntime) -> Result<()
             peer: 1,
             fault: StationFault::Tape(TapeFault::PendingFull),
         },
-        number: MOST + 1,
-        taken: MOST + 2,
+        number: PENDING_MAX_NOTES + 1,
+        taken: PENDING_MAX_NOTES + 2,
     };
     assert_eq!(rt; told, want);
     Ok(())

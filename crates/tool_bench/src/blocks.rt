@@ -8,7 +8,7 @@ use dot_codec::{TEXT_MAX_OCTETS, to_block};
 use std::alloc::Global;
 use std::time::{Clock, Instant};
 
-const MIB: u64 = 1_048_576;
+const MIB_OCTETS: u64 = 1_048_576;
 
 pub fn run<R: AllocGlobal + Print + Clock>(rt: &R, words: &[String]) -> Result<()> {
     match words {
@@ -28,7 +28,7 @@ fn small<R: AllocGlobal + Print>(rt: &R) -> Result<()> {
 }
 
 fn measured<R: AllocGlobal + Print + Clock>(rt: &R, work: &str, mib: u64) -> Result<()> {
-    let octets = mib.saturating_mul(MIB);
+    let octets = mib.saturating_mul(MIB_OCTETS);
     let text = text_of(rt.alloc(), octets.min(TEXT_MAX_OCTETS as u64) as usize)?;
     let start = Instant::now(rt)?;
     let sum = made(

@@ -15,7 +15,7 @@ use std::rt::Files;
 use std::time::{Clock, Duration, Instant};
 
 // How many notes are flushed at once if no number is given.
-const NOTES: u64 = 256;
+const FLUSH_NOTES: u64 = 256;
 
 // The files of the tape.
 const FIRST: &str = "bench~a";
@@ -32,7 +32,12 @@ pub fn run<R: AllocGlobal + Print + Clock + Files<File = File>>(
         [work, path] if work.as_str() == "memory" => tell_memory(rt, &tape_in(rt, path)?),
         [work, path, count] if work.as_str() == "flush" => {
             let count = number(count)?;
-            tell(rt, count, "flushes", flushed_in(rt, path, count, NOTES)?)
+            tell(
+                rt,
+                count,
+                "flushes",
+                flushed_in(rt, path, count, FLUSH_NOTES)?,
+            )
         }
         [work, path, count, notes] if work.as_str() == "flush" => {
             let count = number(count)?;
@@ -41,7 +46,7 @@ pub fn run<R: AllocGlobal + Print + Clock + Files<File = File>>(
         }
         [work, path, count] if work.as_str() == "fill" => {
             let mut tape = emptied(rt, path)?;
-            fill(rt, &mut tape, number(count)? / NOTES)?;
+            fill(rt, &mut tape, number(count)? / FLUSH_NOTES)?;
             tell_memory(rt, &tape)
         }
         [work, path, count] if work.as_str() == "rotate" => {
@@ -55,7 +60,7 @@ pub fn run<R: AllocGlobal + Print + Clock + Files<File = File>>(
 }
 
 fn small<R: AllocGlobal + Print + Clock + Files<File = File>>(rt: &R) -> Result<()> {
-    flushed_in(rt, ".", 4, NOTES)?;
+    flushed_in(rt, ".", 4, FLUSH_NOTES)?;
     rotated_in(rt, ".", 3)?;
     let owed = owed_in(rt, ".")?;
     println!(rt; "disk_model: a tape in a file owes {owed}")?;
@@ -155,7 +160,7 @@ fn rotated<R: AllocGlobal + Clock>(
 // Owes 256 debts this many times, with a flush now and then.
 fn fill<R: AllocGlobal>(rt: &R, tape: &mut Tape<FileDisk<TapeFile>>, count: u64) -> Result<()> {
     for round in 0..count {
-        note_all(rt, tape, NOTES)?;
+        note_all(rt, tape, FLUSH_NOTES)?;
         if round % 200 == 0 {
             flush(tape)?;
         }

@@ -18,13 +18,13 @@ use std::alloc::Global;
 use std::time::{Clock, Duration, Instant};
 
 // How many octets a link moves at most, as many as a buffer for receiving has.
-const PIECE: usize = 65_536;
+const PIECE_MAX_OCTETS: usize = 65_536;
 
 // How many texts the articles are taken from, in turn.
 const TEXTS: u64 = 3;
 
 // More turns than any batch takes.
-const TURNS: u64 = 100_000;
+const TURNS_MAX: u64 = 100_000;
 
 // What went out, how many articles were taken, and the time.
 #[derive(Clone, Copy)]
@@ -92,13 +92,13 @@ fn blocks_copied<R: AllocGlobal + Clock>(rt: &R, articles: u64, octets: u64) -> 
 
 fn link_of(alloc: Global, octets: &[u8]) -> Result<MemLink> {
     let source = octets.to_vec(alloc)?;
-    Ok(MemLink::new(alloc, source, PIECE, End::Never, End::Never))
+    Ok(MemLink::new(alloc, source, PIECE_MAX_OCTETS, End::Never, End::Never))
 }
 
 // Sends this many articles, with as many under way at once as may be.
 fn driven<R: AllocGlobal + Clock>(rt: &R, feed: &Feed, articles: u64) -> Result<Told> {
     let mut conn = streaming(rt.alloc())?;
-    let mut buffer = vec![in rt.alloc(); 0; PIECE]?;
+    let mut buffer = vec![in rt.alloc(); 0; PIECE_MAX_OCTETS]?;
     let mut told = Told::NOTHING;
     for round in 0..articles / IN_FLIGHT {
         ready_batch(&mut conn, feed, round)?;
@@ -137,12 +137,12 @@ fn drive_batch<R: AllocGlobal + Clock>(
 
 // proof: in a function of its own, so that its callers' proofs don't carry what `drive` ensures.
 fn driven_once(conn: &mut Conn, link: &mut MemLink, buffer: &mut [u8]) -> Driven {
-    drive(conn, link, buffer, TURNS)
+    drive(conn, link, buffer, TURNS_MAX)
 }
 
 // Sends as many blocks in turn, and receives as many replies.
 fn copied<R: AllocGlobal + Clock>(rt: &R, feed: &Feed, articles: u64) -> Result<Told> {
-    let mut buffer = vec![in rt.alloc(); 0; PIECE]?;
+    let mut buffer = vec![in rt.alloc(); 0; PIECE_MAX_OCTETS]?;
     let mut batch = Vec::new(rt.alloc());
     let mut told = Told::NOTHING;
     for round in 0..articles / IN_FLIGHT {
@@ -169,7 +169,7 @@ fn fill_batch(batch: &mut Vec<u8>, blocks: &[Bytes], round: u64) -> Result<()> {
 
 fn send(link: &mut MemLink, octets: &[u8]) -> Result<()> {
     let mut rest = octets;
-    for _ in 0..TURNS {
+    for _ in 0..TURNS_MAX {
         match link.send(rest) {
             Moved::Done(count) if count < rest.len() => rest = &rest[count..],
             Moved::Done(_) => return Ok(()),
@@ -181,7 +181,7 @@ fn send(link: &mut MemLink, octets: &[u8]) -> Result<()> {
 
 // Receives all that the link gives.
 fn receive(link: &mut MemLink, buffer: &mut [u8]) {
-    for _ in 0..TURNS {
+    for _ in 0..TURNS_MAX {
         let Moved::Done(_) = link.recv(buffer) else {
             return;
         };

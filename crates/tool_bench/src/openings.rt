@@ -14,7 +14,7 @@ use std::alloc::Global;
 use std::time::{Clock, Instant};
 
 // How many notes of a tape are flushed at once.
-const TOGETHER: u64 = 51200;
+const FLUSH_NOTES: u64 = 51200;
 
 pub fn run<R: AllocGlobal + Print + Clock>(rt: &R, words: &[String]) -> Result<()> {
     match words {
@@ -77,7 +77,7 @@ fn owe_all<D: Disk>(alloc: Global, tape: &mut Tape<D>, notes: u64) -> Result<()>
         if let Err((_, fault)) = tape.note(owe(alloc, number)?) {
             return Err(fault.into());
         }
-        if number % TOGETHER == 0 {
+        if number % FLUSH_NOTES == 0 {
             tape.flush()?;
         }
     }

@@ -10,7 +10,7 @@ use std::alloc::{AllocError, Global};
 use std::time::{Clock, Instant};
 
 // How many octets are fed at once.
-const PIECE: usize = 1500;
+const PIECE_OCTETS: usize = 1500;
 
 // How many replies were read, and the sum of their codes.
 #[derive(Clone, Copy)]
@@ -65,7 +65,7 @@ fn replies_of(alloc: Global, count: u64) -> Result<Vec<u8>, AllocError> {
 fn read(alloc: Global, octets: &[u8]) -> Result<Totals> {
     let mut reader = ReplyReader::new(alloc);
     let mut totals = Totals { count: 0, codes: 0 };
-    for piece in octets.chunks(PIECE) {
+    for piece in octets.chunks(PIECE_OCTETS) {
         read_piece(&mut reader, piece, &mut totals)?;
     }
     Ok(totals)
@@ -87,7 +87,7 @@ fn read_piece(reader: &mut ReplyReader, piece: &[u8], totals: &mut Totals) -> Re
 // How many line ends there are, and the sum of their places in the pieces.
 fn walk(octets: &[u8]) -> Totals {
     let mut totals = Totals { count: 0, codes: 0 };
-    for piece in octets.chunks(PIECE) {
+    for piece in octets.chunks(PIECE_OCTETS) {
         for place in memchr_iter(b'\n', piece) {
             totals.count = totals.count.wrapping_add(1);
             totals.codes = totals.codes.wrapping_add(place as u64);

@@ -23,13 +23,13 @@ use std::rt::Files;
 use std::time::{Clock, Instant};
 
 // How many debts are owed and finished between two flushes.
-const BATCH: u64 = 256;
+const BATCH_DEBTS: u64 = 256;
 
 // How many of them are under way at once.
-const UNDER_WAY: u64 = 16;
+const UNDER_WAY_DEBTS: u64 = 16;
 
 // How many octets an article has at most.
-const OCTETS: usize = 1000;
+const ARTICLE_MAX_OCTETS: usize = 1000;
 
 // A batch of lines, and what the peer replies to the debts of each round.
 #[derive(Drop)]
@@ -101,13 +101,13 @@ fn feed_of(alloc: Global) -> Result<Feed> {
     Ok(Feed {
         lines: lines_of(alloc, &ids)?,
         rounds: rounds_of(alloc, &ids)?,
-        text: Bytes::from_vec(text_of(alloc, OCTETS)?)?,
+        text: Bytes::from_vec(text_of(alloc, ARTICLE_MAX_OCTETS)?)?,
     })
 }
 
 fn ids_of(alloc: Global) -> Result<Vec<MsgId>> {
     let mut ids = Vec::new(alloc);
-    for place in 0..BATCH {
+    for place in 0..BATCH_DEBTS {
         let id = format!(in alloc; "<{place}.article@news.example.org>")?;
         ids.push(MsgId::read(alloc, id.as_bytes())?.context("a message-id")?)?;
     }
@@ -125,7 +125,7 @@ fn lines_of(alloc: Global, ids: &[MsgId]) -> Result<Vec<String>> {
 
 fn rounds_of(alloc: Global, ids: &[MsgId]) -> Result<Vec<Round>> {
     let mut rounds = Vec::new(alloc);
-    for ids in ids.chunks(UNDER_WAY as usize) {
+    for ids in ids.chunks(UNDER_WAY_DEBTS as usize) {
         rounds.push(Round {
             wanted: answers_of(alloc, ids, b"238")?,
             taken: answers_of(alloc, ids, b"239")?,
@@ -159,7 +159,7 @@ fn gone<R: AllocGlobal + Files<File = File>>(
     count: u64,
 ) -> Result<Totals> {
     let mut station = station_in(rt, path)?;
-    send_batches(rt.alloc(), &mut station, feed, count / BATCH)?;
+    send_batches(rt.alloc(), &mut station, feed, count / BATCH_DEBTS)?;
     Ok(station.totals())
 }
 
@@ -189,7 +189,7 @@ fn left<R: AllocGlobal + Files<File = File>>(
     count: u64,
 ) -> Result<Totals> {
     let mut station = station_in(rt, path)?;
-    for batch in 0..count / BATCH {
+    for batch in 0..count / BATCH_DEBTS {
         owe_batch(rt.alloc(), &mut station, &feed.lines, batch)?;
     }
     Ok(station.totals())
@@ -202,7 +202,7 @@ fn owe_batch(
     lines: &[String],
     batch: u64,
 ) -> Result<()> {
-    let mut number = batch.saturating_mul(BATCH);
+    let mut number = batch.saturating_mul(BATCH_DEBTS);
     for line in lines {
         number = number.saturating_add(1);
         owe(alloc, station, number, line.as_bytes())?;
@@ -243,17 +243,17 @@ fn send_round(
     round: &Round,
     text: &Bytes,
 ) -> Result<()> {
-    for _ in 0..UNDER_WAY {
+    for _ in 0..UNDER_WAY_DEBTS {
         offer(conn, claim(station)?)?;
     }
     drain(conn);
     conn.input(&round.wanted)?;
-    for _ in 0..UNDER_WAY {
+    for _ in 0..UNDER_WAY_DEBTS {
         hand_in(conn, text.clone()?)?;
     }
     drain(conn);
     conn.input(&round.taken)?;
-    for _ in 0..UNDER_WAY {
+    for _ in 0..UNDER_WAY_DEBTS {
         finish(station, conn.outcome().context("an outcome")?)?;
     }
     Ok(())

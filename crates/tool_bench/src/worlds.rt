@@ -20,7 +20,7 @@ use world_core::{Report, Step, World, WorldFault};
 const PEERS: u64 = 4;
 
 // How many lines there are to a flush.
-const BATCH: u64 = 256;
+const BATCH_LINES: u64 = 256;
 
 // What came of the lines.
 #[derive(Clone, Copy)]
@@ -121,7 +121,7 @@ fn naming_all(alloc: Global, count: u64) -> Result<Vec<u8>> {
         text.extend_from_slice(b"line ")?;
         text.extend_from_slice(funnel_line(alloc, number)?.as_bytes())?;
         text.push(b'\n')?;
-        if number % BATCH == BATCH - 1 {
+        if number % BATCH_LINES == BATCH_LINES - 1 {
             text.extend_from_slice(b"flush\n")?;
         }
     }
@@ -225,7 +225,7 @@ fn owe_all(stations: &mut [Station<MemDisk>], lines: &[FunnelLine]) -> Result<()
     for line in lines {
         number = number.saturating_add(1);
         owe_each(stations, number, line)?;
-        if number % BATCH == 0 {
+        if number % BATCH_LINES == 0 {
             flush_each(stations)?;
         }
     }
