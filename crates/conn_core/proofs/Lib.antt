@@ -11,7 +11,7 @@ mod Public
 mod Agreed
 mod Lookups
 mod Tickets
-mod TakenLately
+mod AcceptedLately
 mod Answering
 mod Losses
 mod Stirring

@@ -88,7 +88,7 @@ pub(crate) fn stray(code: u16) -> Reason
     }
 }
 
-// Whether an answer of this code took the article; `None` if it does not count for the check switch
+// Whether an answer of this code accepts the article; `None` if it does not count for the check switch
 // (innfeed.conf(5)).
 pub(crate) fn counted(code: u16) -> Option<bool>
     ensures { option_to_list result ≡ counts code }

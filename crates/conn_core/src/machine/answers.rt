@@ -182,7 +182,7 @@ impl Machine {
         ensures { self.new ≡ counted_by self.old (counts code) }
     {
         match counted(code) {
-            Some(took) => self.switch.count(&self.options, took),
+            Some(accepts) => self.switch.count(&self.options, accepts),
             None => {}
         }
     }
