@@ -22,7 +22,7 @@ records-long (payload ∷ payloads) =
           (records payloads),
     )
 
--- behind all records comes the next
+-- the next record begins after all others
 pub next_end : (payloads : List (List ℕ)) (end next : ℕ) → next ≡ end → end ≡ length (records payloads) → end < 2 ^ 64
     - 1
     → next ≡ min (records_length payloads) (2 ^ 64 - 1)
@@ -30,7 +30,7 @@ next_end payloads end next is ends fits = omega (arith, is, ends, fits, records-
 
 -- ---- what pends
 
--- a note that comes behind all that pends
+-- a note that comes after all that pends
 pub placed-last : (kept pending : List (List ℕ)) (next slot : ℕ) (note : Note) (payload : List ℕ)
     → next ≡ min (records_length (kept ++ pending)) (2 ^ 64 - 1) → slot ≡ length pending → payload ≡ spelling note
     → IsPlaced (length kept) ((kept ++ pending) ++ payload ∷ []) next slot 0 note
@@ -64,7 +64,7 @@ on_tape (first ∷ payloads) pending (other ∷ prefix) behind payload split bef
       split = ap (λ (p : List ℕ). p ∷ payloads) same ∙ ap (λ (l : List (List ℕ)). other ∷ l) inner.split;
     }
 
--- and what doesn't pends behind them
+-- and what doesn't, pends after them
 pub record Pends (payloads pending prefix : List (List ℕ)) (payload : List ℕ) (slot : ℕ) : Type 0 where
   pub within : slot < length pending
   pub is : get_or pending slot [] ≡ payload

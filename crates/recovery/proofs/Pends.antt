@@ -219,7 +219,7 @@ all-prefix prefix last most all =
     subst (All (λ (l : List ℕ). length l ≤ most)) (take_at prefix (last ∷ []) (length prefix) refl)
     (All-take (λ (l : List ℕ). length l ≤ most) (length prefix) (prefix ++ last ∷ []) all)
 
--- where the last is another that fits
+-- if the last is replaced by another that fits
 pub fit-set : (items now prefix : List (Vec ℕ Global)) (last new : Vec ℕ Global) (most : ℕ)
     → items ≡ prefix ++ last ∷ [] → now ≡ prefix ++ new ∷ [] → length new.items ≤ most
     → All (λ (l : List ℕ). length l ≤ most) (map vec_items items)
@@ -309,7 +309,7 @@ cut-behind notes before batch more behind cut cut' =
           ∙ (sym (notes_of-append before (batch ∷ [])) ∙ cut.whole))));
     }
 
--- What the last payload alone holds, and how others in its place hold what all of them held.
+-- What the last payload holds by itself, and how others in its place hold what all of them held.
 pub record Tail (notes : List Note) (whole : List (List ℕ)) : Type 0 where
   pub batches : List (List Note)
   pub last : List Note
@@ -378,7 +378,7 @@ tail-holds notes batches whole cut is =
     drop-at [] ys = refl
     drop-at (x ∷ xs) ys = drop-at xs ys
 
--- where the last of what pends begins, behind all others, and the same the other way round
+-- where the last of what pends begins, after all others, and the same the other way round
 pub ends-tail : (kept whole : List (List ℕ)) (last next : ℕ) → EndsAt kept whole last next
     → EndsAt (kept ++ take (length whole - 1) whole) (drop (length whole - 1) whole) last next
 ends-tail kept whole last next at =

@@ -1,4 +1,4 @@
--- Where a note goes that comes after all pending ones.
+-- The place of a note that comes after all pending ones.
 use Rattle.std.proofs.Common.{◌≡◌, inl, inr, ℕ, ◌+◌, ◌-◌, ◌^◌, List, [], ◌∷◌, ◌++◌, length, min, refl, sym, ap, ◌∙◌}
 use Rattle.std.proofs.Common.{subst, arith, length-append}
 use Rattle.std.proofs.lemmas.List.{append_assoc}
@@ -15,7 +15,7 @@ use Rattle.recovery.specs.Pending.{EndsAt, Grows, Joins, Places}
 use Rattle.recovery.proofs.Indexed.{placed-last}
 use Rattle.recovery.proofs.Pends.{last-apart}
 
--- where the last record begins and where one behind all of them will, once the note begins a record
+-- where the last record begins, and where one after all of them will begin, once the note begins a record
 pub ends-begins : (kept old new : List (List ℕ)) (note : Note) (at next : ℕ) → new ≡ old ++ spelling note ∷ []
     → at ≡ min (records_length (kept ++ old)) (2 ^ 64 - 1)
     → next ≡ min (at + (5 + length (spelling note))) (2 ^ 64 - 1) → EndsAt kept new at next

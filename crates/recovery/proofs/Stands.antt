@@ -33,7 +33,7 @@ use Rattle.recovery.specs.Tape.{IsIndexed, StandsFor, StaysBehind}
 use Rattle.recovery.specs.Words.{AreHonest, IsBroken, generation_of, ledger_of, live_log, live_segment, log_of}
 use Rattle.recovery.specs.Words.{other_log}
 use Rattle.recovery.specs.Words.{pending_of}
-use Rattle.recovery.specs.declared.segments.TapeSegments.{TapeSegments}
+use Rattle.recovery.specs.declared.tape_segments.TapeSegments.{TapeSegments}
 use Rattle.recovery.specs.declared.tape.Tape.{Tape}
 use Rattle.recovery.proofs.Pends.{ends-none, holds-none, holds-same}
 
@@ -171,7 +171,7 @@ module _ {D : Type 0} {g : Ghosts D} (tape : Tape D g) (h : History) where
       (λ c reads. appended stands works w.payloads w.restores w.other w.pending c reads)
       (live_log tape) new (moments w.payloads w.holds))
 
-  -- where nothing pends all is acknowledged
+  -- if nothing pends, all is acknowledged
   pub stands_idle : StandsFor tape h → (IsBroken tape → ⊥) → pending_of tape ≡ 0 → StandsFor tape (flushed h)
   stands_idle stands works none =
       let w = stands.working works in

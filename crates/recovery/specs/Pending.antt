@@ -45,7 +45,7 @@ pub record Joins (old new : List (List ℕ)) (note : Note) : Type 0 where
 abbrev pub Grows : List (List ℕ) → List (List ℕ) → Note → Type 0
 Grows old new note = Begins old new note ⊎ Joins old new note
 
--- Where the last pending record begins, and where one after all of them will, after those that are on the tape.
+-- Where the last pending record begins, and where one after all of them will begin, after those that are on the tape.
 pub record EndsAt (kept pending : List (List ℕ)) (last next : ℕ) : Type 0 where
   pub last_is : (prefix : List (List ℕ)) (payload : List ℕ) → pending ≡ prefix ++ payload ∷ []
       → last ≡ min (records_length (kept ++ prefix)) (2 ^ 64 - 1)

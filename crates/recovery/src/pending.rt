@@ -12,17 +12,17 @@ ghost use Rattle.std.specs.declared.alloc.Global.{Global};
 use ledger_core::{BATCH_MAX_OCTETS, Cause, Key, Note, encode, join, joined_len};
 use std::alloc::{AllocError, Global};
 
-// How many octets a payload of several notes has before them.
+// The number of octets that a payload of several notes has before them.
 const HEAD_OCTETS: usize = 5;
 
-/// Where a note goes that comes after all pending ones.
+/// The place of a note that comes after all pending ones.
 #[derive(Clone, Copy)]
 pub(crate) struct PendingPlace {
     // The offset of its record, or the greatest u64 if that is less.
     pub(crate) at: u64,
-    // The index of its record among the pending ones.
+    // The index of its record among the pending records.
     pub(crate) slot: u32,
-    // How many octets of other notes come before it in its record.
+    // The number of octets of other notes that come before it in its record.
     pub(crate) within: u16,
     // Where the record after it begins, or the greatest u64 if that is less.
     pub(crate) next: u64,
@@ -34,7 +34,7 @@ fn record_behind(at: u64, len: usize) -> u64
     at.saturating_add(5).saturating_add(len as u64)
 }
 
-/// The pending notes: the payloads of the longest batches into which they fit, of which the last grows.
+/// The pending notes: the payloads of the longest batches into which they fit. Only the last batch grows.
 #[derive(Drop)]
 pub(crate) struct Pending {
     pub(crate) payloads: Vec<Vec<u8>>,
@@ -143,8 +143,8 @@ impl Pending {
         }
     }
 
-    // Where a note of `len` octets goes that comes after what is pending. The last pending record begins at `last`, and
-    // one after all of them would begin at `next`.
+    // The place of a note of `len` octets that comes after what is pending. The last pending record begins at `last`,
+    // and a record after all of them would begin at `next`.
     pub(crate) fn place_for(&self, last: u64, next: u64, len: usize) -> PendingPlace
         requires short { len ≤ 1024 }
         requires few { self.now.count ≤ most_pending }
@@ -243,7 +243,7 @@ impl Pending {
         Ok((last, next))
     }
 
-    // A copy of the last payload alone, which counts as many notes as all of them.
+    // A copy of only the last payload, which counts as many notes as all of them.
     fn tail(&self, alloc: Global) -> Result<Pending, AllocError>
         ensures payloads { IfOk result (λ tail. payloads_in tail
             ≡ drop (length (payloads_in self.now) - 1) (payloads_in self.now)) }

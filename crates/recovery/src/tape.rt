@@ -14,7 +14,7 @@ ghost use Rattle.recovery.specs.declared.fault.TapeFault.TheVariants.{Broken};
 use crate::fault::append_fault;
 use crate::pending::Pending;
 use crate::read::read_ledger;
-use crate::segments::{TapeSegments, is_second_live};
+use crate::tape_segments::{TapeSegments, is_second_live};
 use crate::{Flushed, TapeFault};
 use disk_model::Disk;
 use funnel::{MsgId, Token};
@@ -82,7 +82,7 @@ pub struct Tape<D: Disk> {
     pub(crate) last: u64,
     // The offset at which the record after all pending ones will be, or the greatest u64 if that is less.
     pub(crate) next: u64,
-    // How many notes were put on the disks since the tape was opened.
+    // The number of notes that were put on the disks since the tape was opened.
     pub(crate) flushed: u64,
     // Its place among the tapes of other peers, which the answer of a flush names.
     pub(crate) place: Option<usize>,
@@ -118,7 +118,8 @@ impl<D: Disk> Tape<D> {
     /// yet.
     /// The disks are read and judged first, which changes nothing; then the other disk is synced, and the end of the
     /// live segment is repaired. Linear in the live segment. Each payload is judged as it is read, and none is kept:
-    /// apart from the ledger it takes room for a piece of the segment, of at most 131,072 octets.
+    /// apart from the ledger it takes room for a piece of the segment, of at most 131,072 octets, and before that for
+    /// the first payload of one disk at a time, whose generation it looks for.
     ///
     /// # Errors
     /// The disks are handed back. Tried in this order:
@@ -557,11 +558,11 @@ impl<D: Disk> Tape<D> {
         if self.rotated_len() > SEGMENT_MAX_OCTETS {
             return Err(TapeFault::TapeFull);
         }
-        self.write_anew()
+        self.rewrite()
     }
 
     /// Gives the tape a place among the tapes of other peers. What each flush returns names it from now on, so that a
-    /// caller can tell which tape was flushed. Nothing else changes.
+    /// caller knows which tape was flushed. Nothing else changes.
     pub fn placed(&mut self, place: usize)
         ensures place { place_of self.new ≡ Some place }
         ensures stands { (h : History) → StandsFor self.old h ↔ StandsFor self.new h }

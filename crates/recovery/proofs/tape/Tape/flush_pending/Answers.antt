@@ -24,7 +24,7 @@ use Rattle.ledger_core.specs.WrittenLaws.{restores-on}
 use Rattle.recovery.specs.LeavingLaws.{cut-none, cut-payloads}
 use Rattle.recovery.specs.Pending.{payloads_in}
 use Rattle.recovery.specs.Notes.{AreLegal, flushed}
-use Rattle.recovery.specs.declared.segments.TapeSegments.{TapeSegments}
+use Rattle.recovery.specs.declared.tape_segments.TapeSegments.{TapeSegments}
 use Rattle.recovery.proofs.Counts.{live_risen}
 use Rattle.recovery.proofs.Stands.{stands_whole, stands_refused, flush_moments, same_tape}
 use Rattle.recovery.specs.Pairs.{placed}
@@ -32,7 +32,7 @@ use Rattle.recovery.specs.Words.{append_fault, live_log, other_log}
 use Rattle.recovery.specs.declared.fault.TapeFault.TheVariants.{Disk, TapeFull}
 use Rattle.recovery.proofs.tape.Tape.flush_pending.Goals as goal
 
--- the tape tells a fault of the disk where its journal does
+-- the tape reports a fault of the disk if its journal does
 disk_told : (fault : AppendFault) → append_fault fault ≡ Disk → fault ≡ AppendDisk
 disk_told AppendDisk e = refl
 disk_told AppendBroken e = cc
@@ -48,7 +48,7 @@ fit_short (payload ∷ payloads) all = (
   fit_short payloads (λ k d within. all (suc k) d (omega (arith, within))),
 )
 
--- the tape is full where its journal is
+-- the tape is full if its journal is
 full_told : (fault : AppendFault) → append_fault fault ≡ TapeFull → (fault ≡ PayloadTooLong → ⊥) → fault ≡ AppendTapeFull
 full_told AppendTapeFull e short = refl
 full_told PayloadTooLong e short = absurd (short refl)

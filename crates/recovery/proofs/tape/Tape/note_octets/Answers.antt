@@ -48,7 +48,7 @@ place_of : (payloads pending : List (List ℕ)) (at slot end : ℕ) (payload : L
 place_of payloads pending at slot end payload is before stands fits =
     omega (arith, is, before, stands.at_is, fits, records-long stands.prefix)
 
--- the octets of a payload that are notes are all of it where they are no fewer
+-- the octets of a payload that are notes are all of it if they are no fewer
 whole-case : (several : Bool) (tag : ℕ) (rest : List ℕ)
     → length (tag ∷ rest) ≤ length (cond several (drop 4 rest) (tag ∷ rest))
     → cond several (drop 4 rest) (tag ∷ rest) ≡ tag ∷ rest
