@@ -14,7 +14,7 @@ use Rattle.ledger_core.proofs.part.Part.TheSendSync as part
 use Rattle.ledger_core.proofs.spot.Spot.TheSendSync as spot
 use Rattle.ledger_core.specs.contracts.ledger.Ledger as Ledger
 use Rattle.ledger_core.specs.contracts.outline.Outline as Outline
-use Rattle.recovery.proofs.segments.TapeSegments.TheSendSync as segments
+use Rattle.recovery.proofs.tape_segments.TapeSegments.TheSendSync as segments
 use Rattle.recovery.specs.contracts.tape.Tape as Tape
 use Rattle.flusher.proofs.tally.Tally.TheSendSync as tally
 use Rattle.flusher.specs.contracts.post.Intake as Intake
