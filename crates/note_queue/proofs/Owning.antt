@@ -225,7 +225,7 @@ module _ {D : Type 0} {g : Ghosts D} where
       LedgersLeave-weaker (IsFirst base notes) (IsFirst base (notes ++ more)) (more_first base notes more) (log_of old)
       (log_of new) (all_first old new base notes o (moments o.h o.stands)))
 
-  -- a call that left the disks alone
+  -- a call that did not touch the disks
   still_first : (old new : Tape D g) (base : State) (notes more : List Note) → log_of new ≡ log_of old
       → (AreHonest old → AreHonest new) → ∥ IsOwner new base notes ∥₁ → LeavesFirst base (notes ++ more) old new
   still_first old new base notes more log there owner honest =
@@ -292,7 +292,7 @@ pub all_drained : (sent got before since items : List Note) → length items ≡
     → got ≡ before ++ since → sent ≡ before ++ since
 all_drained sent got before since items none s g = s ∙ ap (λ l. got ++ l) (empty items none) ∙ append_none got ∙ g
 
--- as many were popped as there were
+-- every note that there was is popped
 pub all_popped : (sent got before since items held : List Note) → sent ≡ before ++ held → length held ≡ length since
     → sent ≡ got ++ items → got ≡ before ++ since → sent ≡ before ++ since
 all_popped sent got before since items held whole many s g =

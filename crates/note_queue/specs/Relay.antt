@@ -67,7 +67,7 @@ AllowsPops holds =
 abbrev pub HoldsWith : (List Note → List PassLog → Type 0) → PassLog → List Note → Type 0
 HoldsWith holds log items = (logs : List PassLog) × (port : ℕ) × holds items logs × (get_elem? logs port ≡ some log)
 
--- at one moment the queue held this many notes, and one of its passes knew this
+-- at one moment the queue held `count` notes, and one of its passes knew this
 abbrev pub WasSeen : (List Note → List PassLog → Type 0) → ℕ → PassLog → Type 0
 WasSeen holds count log = Held count (HoldsWith holds log)
 

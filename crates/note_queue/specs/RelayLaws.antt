@@ -1,4 +1,4 @@
--- Each move of a pass keeps the rule of the queue.
+-- Each step on a queue keeps its rule.
 use Rattle.std.proofs.Common.{◌≡◌, ◌≢◌, ℕ, zero, suc, true, true≢false, List, [], ◌∷◌, ◌++◌, length, set}
 use Rattle.std.proofs.Common.{sym, refl, ap, ◌∙◌, subst, ⊎_elim, append_assoc}
 use mathlib.Core.Option.{some, some-ne-none}
@@ -6,9 +6,10 @@ use lib.ListN.{get_elem?}
 use Rattle.crossbeam_queue.specs.Fifo.{Forks, Learns, Merges}
 use Rattle.crossbeam_queue.proofs.Lists.{at_set, at_snoc}
 use Rattle.ledger_core.specs.State.{State, start}
+use Rattle.ledger_core.specs.declared.note.Note.{Note}
 use Rattle.note_queue.specs.declared.rule.PassLog.{PassLog}
-use Rattle.note_queue.specs.Relay.{AllowsPops, AllowsPushes, Knows, Relayed, begun, idle, may_pop, may_push, pass_log}
-use Rattle.note_queue.specs.Relay.{with_got, with_sent}
+use Rattle.note_queue.specs.Relay.{AllowsPops, AllowsPushes, HoldsWith, Knows, Relayed, begun, idle, may_pop, may_push}
+use Rattle.note_queue.specs.Relay.{pass_log, with_got, with_sent}
 
 -- only the last place of a longer list has its last element
 at_end : (l : List PassLog) (a b : PassLog) (j : ℕ) → get_elem? l j ≢ some b → get_elem? (l ++ a ∷ []) j ≡ some b
@@ -84,6 +85,11 @@ pops-relayed port log may note items logs h at =
       ),
       refl,
     )
+
+-- A push is refused, or a pop finds nothing: neither the queue nor its passes change, so the rule holds as before.
+pub stays : (holds : List Note → List PassLog → Type 0) (port : ℕ) (log : PassLog)
+    → Learns holds port log (λ items. HoldsWith holds log items)
+stays holds port log items logs h at = (logs, port, h, at)
 
 -- One pass becomes two: the pass that may do both may also change the ledger onto which the notes go
 pub forks : (port : ℕ) (log : PassLog) (ledger : State) → log.pushes ≡ true → log.pops ≡ true

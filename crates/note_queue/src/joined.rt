@@ -19,11 +19,11 @@ use std::sync::Wait;
 /// A peer's front and tape, and the notes on their way between them.
 #[derive(Drop)]
 pub struct Joined<D: Disk> {
-    /// The front.
+    /// It still has the notes that were not sent.
     pub front: Front,
-    /// The tape.
+    /// Its ledger lacks the notes that are kept or queued here, and those that were not sent.
     pub tape: Tape<D>,
-    /// The note that it refused.
+    /// The note that the tape refused, if it refused one.
     pub kept: Option<Note>,
     /// What the queue held, oldest first.
     pub queued: Vec<Note>,

@@ -1,12 +1,13 @@
 use Rattle.std.proofs.Common.{None, ap, sym, ◌∙◌, subst}
 use Rattle.crossbeam_queue.specs.Passes.{view}
 use Rattle.note_queue.specs.declared.rule.PassLog.{PassLog}
+use Rattle.note_queue.specs.RelayLaws.{stays}
 use Rattle.note_queue.proofs.Owning.{Keeps}
 use Rattle.note_queue.proofs.side.Side.take_one.Goals as goal
 
 pub pop_as-requires-clause-rule : goal.pop_as-requires-clause-rule
 pop_as-requires-clause-rule g c =
-    (g.met.P.Relays.allows_pops _ _ c.args.self.now.role.0, λ items logs holds at. (logs, _, holds, at))
+    (g.met.P.Relays.allows_pops _ _ c.args.self.now.role.0, stays _ _ _)
 
 pub invariant_of-self : goal.invariant_of-self
 invariant_of-self g c =
