@@ -72,14 +72,14 @@ abbrev pub Asks : {L : Type 0} → (takes : L → List ℕ → Moved → L → T
 Asks takes [] old made new = (made ≡ Later) × (new ≡ old)
 Asks takes (octet ∷ octets) old made new = takes old (octet ∷ octets) made new
 
--- A send of these octets: what the link did, and that it took as many of the first as it says.
+-- A send of these octets: what the link did, and that it took a prefix of them, as long as it says.
 pub record Sends {L : Type 0} (took : L → Option (List ℕ)) (takes : L → List ℕ → Moved → L → Type 0)
     (octets : List ℕ) (old : L) (made : Moved) (new : L) : Type 0 where
   pub asks : Asks takes octets old made new
   pub within : moved made ≤ length octets
   pub told : Tells (took old) (take (moved made) octets) (took new)
 
--- A receipt with room for this many octets, and the octets that came: what the link did, and that it gave these.
+-- A receipt with room for `room` octets, and the octets that came: what the link did, and that it gave these.
 pub record Gets {L : Type 0} (gave : L → Option (List ℕ)) (gives : L → ℕ → Moved → L → Type 0)
     (room : ℕ) (old : L) (made : Moved) (octets : List ℕ) (new : L) : Type 0 where
   pub asks : gives old room made new
@@ -104,7 +104,7 @@ pub data Moves {L : Type 0} (took gave : L → Option (List ℕ)) (takes : L →
       → TakesIn options made octets left mid rest later
       → Moves took gave takes gives options room unread h link (Receipt made ∷ steps) rest later new
 
--- What an answer says of the steps and of the transcript after them, if this many turns were asked for. Shut exactly
+-- What an answer says of the steps and of the transcript after them, if `turns` turns were asked for. Shut exactly
 -- if there is a reason to close; otherwise Idle exactly if the last turn was a rest, and then the link would give
 -- nothing now, and there is nothing to send or the link would take nothing; Turns if all were made and the last was
 -- not a rest.

@@ -16,36 +16,36 @@ pub record Memory : Type 0 where
   pub gives : End  -- where it gives no more
   pub takes : End  -- where it takes no more
 
--- the end in place of a move, after this many octets
+-- the end in place of a move, after `count` octets
 abbrev pub met : End → ℕ → Option Moved
 met Never count = None
 met (Closes at) count = if nat_le at count then Some Closed else None
 met (Fails at) count = if nat_le at count then Some Fault else None
 
--- how many of the octets wanted go before the end, after this many
+-- how many of the octets wanted go before the end, after `count` octets
 abbrev pub cut : End → (count wanted : ℕ) → ℕ
 cut Never count wanted = wanted
 cut (Closes at) count wanted = min wanted (at - count)
 cut (Fails at) count wanted = min wanted (at - count)
 
--- the move of this many octets, or that none waits
+-- the move of `count` octets, or that none waits
 abbrev pub move_of : List ℕ → ℕ → Moved
 move_of [] count = Later
 move_of (octet ∷ waiting) count = Done count
 
--- what it returns if there is room for this many octets: its end, if that is reached; otherwise as many as wait, up
--- to a piece and up to the end
+-- what it returns if there is room for `room` octets: its end, if that is reached; otherwise the number of those that
+-- wait, up to a piece and up to the end
 abbrev pub gives_now : Memory → (room : ℕ) → Moved
 gives_now link room =
     unwrap_or (met link.gives (length link.gave))
     (move_of link.waiting (cut link.gives (length link.gave) (min (min link.piece room) (length link.waiting))))
 
--- this many more octets were given
+-- `count` more octets were given
 abbrev pub after_giving : Memory → ℕ → Memory
 after_giving link count = record link { gave = link.gave ++ take count link.waiting; waiting = drop count link.waiting }
 
--- what it returns if this many octets are offered: its end, if that is reached; otherwise as many as are offered, up
--- to a piece and up to the end
+-- what it returns if `offered` octets are offered: its end, if that is reached; otherwise their number, up to a piece
+-- and up to the end
 abbrev pub takes_now : Memory → (offered : ℕ) → Moved
 takes_now link offered =
     unwrap_or (met link.takes (length link.taken)) (Done (cut link.takes (length link.taken) (min link.piece offered)))
@@ -54,7 +54,7 @@ takes_now link offered =
 abbrev pub after_taking : Memory → List ℕ → Memory
 after_taking link octets = record link { taken = link.taken ++ octets }
 
--- a call with room for this many octets: it returns exactly what `gives_now` says, and gives that many
+-- a call with room for `room` octets: it returns exactly what `gives_now` says, and gives that many
 abbrev pub Gives : Memory → (room : ℕ) → Moved → Memory → Type 0
 Gives link room made new = (made ≡ gives_now link room) × (new ≡ after_giving link (moved made))
 

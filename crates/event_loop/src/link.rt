@@ -13,7 +13,7 @@ pub trait Link {
     /// The octets that it gave, oldest first, if it reports them.
     ghost gave: { Self → Option (List ℕ) } = { λ _. None };
 
-    /// What a call of `recv` with room for this many octets made of the link, and returned. A link that knows no more
+    /// What a call of `recv` with room for that many octets made of the link, and returned. A link that knows no more
     /// than the clauses below says nothing, as the default does.
     ghost gives: { Self → ℕ → Moved → Self → Type 0 } = { λ _ _ _ _. Unit {0} };
 

@@ -14,9 +14,9 @@ use std::marker::Model;
 pub enum End {
     /// It never ends.
     Never,
-    /// It is closed after this many octets.
+    /// It is closed after that many octets.
     Closes(usize),
-    /// It fails after this many octets.
+    /// It fails after that many octets.
     Fails(usize),
 }
 

@@ -3,7 +3,7 @@
 /// What one call of a link did.
 #[derive(Clone, Copy, Debug, PartialEq, Eq)]
 pub enum Moved {
-    /// This many octets went through; 0 if the call was interrupted.
+    /// The number of octets that went through; 0 if the call was interrupted.
     Done(usize),
     /// None went through, and none will until the link is reported ready.
     Later,

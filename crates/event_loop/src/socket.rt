@@ -76,7 +76,7 @@ impl SocketLink {
 
     /// Notes what the stream was reported ready for. If it failed, each direction is tried once more and reports the
     /// failure.
-    pub fn note(&mut self, event: &Event)
+    pub fn on_event(&mut self, event: &Event)
         ensures reads { self.new.readable ≡ (self.old.readable || spec.is_readable event.now
             || spec.is_read_closed event.now || spec.is_error event.now) }
         ensures writes { self.new.writable ≡ (self.old.writable || spec.is_writable event.now

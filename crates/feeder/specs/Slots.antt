@@ -48,7 +48,7 @@ misses (Missed ∷ h) = misses h + 1
 misses (Lost now ∷ h) = 0
 misses (Left ∷ h) = 0
 
--- it could not be made to one of the peer's addresses: it is lost if that was so for as many in a row as there are
+-- it could not be connected to one of the peer's addresses: it is lost once that was so for all of them in a row
 abbrev pub unmade : (now addresses : ℕ) → List Event → List Event
 unmade now addresses h = (if nat_lt (misses h + 1) addresses then Missed else Lost now) ∷ h
 

@@ -228,7 +228,7 @@ impl<S: SpoolDirectory + Drop, C: Net + Drop, N: Naming> Feeder<S, C, N> {
         Ok(())
     }
 
-    // Tells a connection's slot that its peer has agreed to a mode, if it just has.
+    // Notes at a connection's slot that its peer has agreed to a mode, if it just has.
     fn on_agreed<D: Disk, R: Log, P: Pace>(
         &mut self,
         rt: &R,

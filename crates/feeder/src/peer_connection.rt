@@ -224,7 +224,7 @@ impl PeerConnection {
     /// Its socket was reported ready. The first report that it can be written ends connecting, with success or not.
     pub fn on_event(&mut self, event: &Event) {
         self.is_dirty = true;
-        self.link.note(event);
+        self.link.on_event(event);
         if self.is_connecting && (event.is_writable() || event.is_error()) {
             match self.link.take_error() {
                 Ok(None) => self.is_connecting = false,

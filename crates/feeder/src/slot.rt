@@ -119,8 +119,8 @@ impl Slot {
         self.backoff.opened();
     }
 
-    /// It could not be connected to one of its peer's addresses. The next address is tried at once; if as many tries in
-    /// a row failed as there are addresses, it is lost.
+    /// It could not be connected to one of its peer's addresses. The next address is tried at once. Once a try of each
+    /// address has failed, one after another, the slot is lost.
     pub fn unmade(&mut self, now: u64, addresses: usize)
         ensures stands { (h : List Event) → StandsFor self.old h
             → StandsFor self.new (unmade now addresses h) }

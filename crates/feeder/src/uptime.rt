@@ -43,7 +43,7 @@ impl Uptime {
     }
 }
 
-/// A poll's timeout.
+/// Always `Some`: without a timeout a poll would wait for an event, however long that takes.
 pub(crate) fn timeout(millis: u64) -> Option<Duration> {
     Some(Duration::from_millis(millis))
 }

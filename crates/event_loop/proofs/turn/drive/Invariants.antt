@@ -5,7 +5,7 @@ use Rattle.conn_core.specs.Stands.{StandsFor}
 use Rattle.conn_core.specs.declared.options.Options.{Options}
 use Rattle.event_loop.proofs.turn.drive.Given as goal
 
--- so far only turns, as many as counted; the connection is open, and the last turn moved something
+-- so far only turns, and all are counted; the connection is open, and the last turn moved something
 abbrev pub invariant-loop-turn : goal.invariant-loop-turn
 invariant-loop-turn g l = ((options : Options) (unread : List ℕ) (h : List Event) → StandsFor options l.fn.conn unread h
     → (left : List ℕ) × (later : List Event) × (steps : List Step) × StandsFor options l.conn left later
