@@ -9,11 +9,11 @@ use std::thread;
 use std::time::Duration;
 
 // How often an answer is looked for, once in each hundredth of a second.
-const TRIES: u64 = 2_000;
+const TRIES_MAX: u64 = 2_000;
 
 /// A caller, who counts the answers for each host.
 #[derive(Drop)]
-pub(crate) struct Caller {
+pub(crate) struct CaseCaller {
     seen: Vec<u64>,
 }
 
@@ -29,10 +29,10 @@ pub(crate) fn hosts(alloc: Global, names: &[&str]) -> Result<Vec<Host>, AllocErr
     Ok(hosts)
 }
 
-impl Caller {
+impl CaseCaller {
     /// A caller that has had no answer yet for any of these hosts.
     pub fn new(alloc: Global, hosts: usize) -> Result<Self, AllocError> {
-        Ok(Caller {
+        Ok(CaseCaller {
             seen: vec![in alloc; 0u64; hosts]?,
         })
     }
@@ -55,7 +55,7 @@ impl Caller {
         resolver: &Resolver,
         host: usize,
     ) -> Result<Answer> {
-        for _ in 0..TRIES {
+        for _ in 0..TRIES_MAX {
             if let Some(answer) = self.news(rt, resolver, host)? {
                 return Ok(answer);
             }

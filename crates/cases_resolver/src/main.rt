@@ -7,7 +7,7 @@ mod caller;
 mod gate;
 
 use anyhow::Result;
-use caller::{Caller, hosts};
+use caller::{CaseCaller, hosts};
 use gate::{Gate, Gated};
 use mio::{Events, Poll, Token, Waker};
 use resolver::{Resolver, SystemLookUp};
@@ -52,7 +52,7 @@ fn literals<R: AllocGlobal + Threads + Wait + Clock + Print + Copy + Send + Sync
     println!(rt; "== literal addresses")?;
     let gate = Gate::shut(rt.alloc())?;
     let resolver = resolver(rt, &gate, &["192.0.2.7", "2001:db8::7"])?;
-    let mut caller = Caller::new(rt.alloc(), 2)?;
+    let mut caller = CaseCaller::new(rt.alloc(), 2)?;
     caller.tell(&rt, &resolver, 0)?;
     caller.tell(&rt, &resolver, 1)?;
     resolver.ask(&rt, 0);
@@ -82,7 +82,7 @@ fn twenty<R: AllocGlobal + Threads + Wait + Clock + Print + Copy + Send + Sync +
         gate.inside(&rt)
     )?;
     gate.open(&rt);
-    let mut caller = Caller::new(rt.alloc(), 20)?;
+    let mut caller = CaseCaller::new(rt.alloc(), 20)?;
     for host in 0..20 {
         caller.wait(&rt, &resolver, host)?;
     }
@@ -107,7 +107,7 @@ fn asked_twice<
         }
     }
     gate.open(&rt);
-    let mut caller = Caller::new(rt.alloc(), 9)?;
+    let mut caller = CaseCaller::new(rt.alloc(), 9)?;
     for host in 0..9 {
         caller.wait(&rt, &resolver, host)?;
     }
@@ -123,7 +123,7 @@ fn asked_again<
     let gate = Gate::shut(rt.alloc())?;
     gate.open(&rt);
     let resolver = resolver(rt, &gate, &["one.example"])?;
-    let mut caller = Caller::new(rt.alloc(), 1)?;
+    let mut caller = CaseCaller::new(rt.alloc(), 1)?;
     for _ in 0..2 {
         resolver.ask(&rt, 0);
         caller.wait(&rt, &resolver, 0)?;
@@ -140,7 +140,7 @@ fn failures<R: AllocGlobal + Threads + Wait + Clock + Print + Copy + Send + Sync
     let gate = Gate::shut(rt.alloc())?;
     gate.open(&rt);
     let resolver = resolver(rt, &gate, &["fails.example", "none.example"])?;
-    let mut caller = Caller::new(rt.alloc(), 2)?;
+    let mut caller = CaseCaller::new(rt.alloc(), 2)?;
     for host in 0..2 {
         resolver.ask(&rt, host);
         caller.wait(&rt, &resolver, host)?;
@@ -157,8 +157,8 @@ fn callers<R: AllocGlobal + Threads + Wait + Clock + Print + Copy + Send + Sync 
     gate.open(&rt);
     let resolver = resolver(rt, &gate, &["one.example"])?;
     let other = resolver.try_clone()?;
-    let mut first = Caller::new(rt.alloc(), 1)?;
-    let mut second = Caller::new(rt.alloc(), 1)?;
+    let mut first = CaseCaller::new(rt.alloc(), 1)?;
+    let mut second = CaseCaller::new(rt.alloc(), 1)?;
     resolver.ask(&rt, 0);
     first.wait(&rt, &resolver, 0)?;
     first.tell(&rt, &resolver, 0)?;
@@ -173,7 +173,7 @@ fn no_such_host<
     println!(rt; "== no such host")?;
     let gate = Gate::shut(rt.alloc())?;
     let resolver = resolver(rt, &gate, &["one.example"])?;
-    let mut caller = Caller::new(rt.alloc(), 3)?;
+    let mut caller = CaseCaller::new(rt.alloc(), 3)?;
     for host in [1, usize::MAX] {
         resolver.ask(&rt, host);
         println!(rt; "looking {}", resolver.is_looking(&rt, host))?;
@@ -190,7 +190,7 @@ fn slow<R: AllocGlobal + Threads + Wait + Clock + Print + Copy + Send + Sync + D
     println!(rt; "== a slow one")?;
     let gate = Gate::shut(rt.alloc())?;
     let resolver = resolver(rt, &gate, &["one.example", "fails.example"])?;
-    let mut caller = Caller::new(rt.alloc(), 2)?;
+    let mut caller = CaseCaller::new(rt.alloc(), 2)?;
     resolver.ask(&rt, 0);
     gate.wait_for(&rt, 1);
     resolver.ask(&rt, 1);
@@ -226,7 +226,7 @@ fn woken<
     let mut events = Events::with_capacity(rt.alloc(), 1)?;
     tell_events(&rt, &mut one, &mut events)?;
     tell_events(&rt, &mut other, &mut events)?;
-    let mut caller = Caller::new(rt.alloc(), 1)?;
+    let mut caller = CaseCaller::new(rt.alloc(), 1)?;
     caller.tell(&rt, &resolver, 0)
 }
 
@@ -245,7 +245,7 @@ fn localhost<
     let alloc = rt.alloc();
     let all = hosts(alloc, &["localhost"])?;
     let resolver = Resolver::start(&rt, alloc, all, SystemLookUp(net))?;
-    let mut caller = Caller::new(alloc, 1)?;
+    let mut caller = CaseCaller::new(alloc, 1)?;
     resolver.ask(&rt, 0);
     let is_own = caller.is_own(&rt, &resolver, 0)?;
     println!(rt; "an address of this host: {is_own}")?;
