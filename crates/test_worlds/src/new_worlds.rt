@@ -1,25 +1,29 @@
-// A new world of one peer.
+// Worlds of new peers.
+use drill_script::{Script, read_script};
 use feed_conf::{PeerConf, read_conf};
 use std::alloc::{AllocError, Global};
 use std::test::Fail;
 use world_core::{Step, World};
 
-fn peer_of(alloc: Global, settings: &[u8]) -> Option<PeerConf> {
-    match read_conf(alloc, settings) {
-        Ok(conf) => conf.into_peers().pop(),
-        Err(_) => None,
+fn peer_of(alloc: Global, settings: &[u8]) -> Result<PeerConf, Fail> {
+    let Ok(conf) = read_conf(alloc, settings) else {
+        return Err(Fail::from("no configuration"));
+    };
+    let Some(peer) = conf.into_peers().pop() else {
+        return Err(Fail::from("no peer"));
+    };
+    Ok(peer)
+}
+
+fn script_of(alloc: Global, text: &[u8]) -> Result<Script, Fail> {
+    match read_script(alloc, text) {
+        Ok(script) => Ok(script),
+        Err(_) => Err(Fail::from("no script")),
     }
 }
 
-fn line_and_flush(alloc: Global) -> Result<Vec<Step>, AllocError> {
-    let mut steps = Vec::new(alloc);
-    steps.push(Step::Line(Vec::from_slice(alloc, b"a/1 <x@y> p")?))?;
-    steps.push(Step::Flush)?;
-    Ok(steps)
-}
-
 // The lines that a world outputs for these steps; nothing if it refuses one.
-fn told_by(alloc: Global, world: &mut World, steps: &[Step]) -> Result<Vec<u8>, AllocError> {
+fn outputs_of(alloc: Global, world: &mut World, steps: &[Step]) -> Result<Vec<u8>, AllocError> {
     let mut out = Vec::new(alloc);
     if let Ok(report) = world.run(steps) {
         for outputs in &report.lines {
@@ -31,22 +35,44 @@ fn told_by(alloc: Global, world: &mut World, steps: &[Step]) -> Result<Vec<u8>, 
     Ok(out)
 }
 
-// The lines that a new world of this peer outputs for a line and a flush; nothing if it is not made.
-fn told_of(alloc: Global, peer: PeerConf) -> Result<Vec<u8>, AllocError> {
-    let mut peers = Vec::new(alloc);
-    peers.push(peer)?;
-    match World::new(alloc, peers) {
-        Ok(mut world) => told_by(alloc, &mut world, &line_and_flush(alloc)?),
-        Err(_) => Ok(Vec::new(alloc)),
+// A new world of three peers whose names differ.
+fn world_of(alloc: Global, p: PeerConf, q: PeerConf, r: PeerConf) -> Result<World, Fail> {
+    if p.name.bytes() == q.name.bytes()
+        || p.name.bytes() == r.name.bytes()
+        || q.name.bytes() == r.name.bytes()
+    {
+        return Err(Fail::from("two peers of one name"));
     }
+    let peers = vec![in alloc; p, q, r]?;
+    match World::new(alloc, peers) {
+        Ok(world) => Ok(world),
+        Err(_) => Err(Fail::from("no world")),
+    }
+}
+
+fn new_world(alloc: Global) -> Result<World, Fail> {
+    let p = peer_of(alloc, b"peer p { }")?;
+    let q = peer_of(alloc, b"peer q { }")?;
+    let r = peer_of(alloc, b"peer r { }")?;
+    world_of(alloc, p, q, r)
 }
 
 #[test]
 fn a_new_world_takes_steps(rt: HostRuntime) -> Result<(), Fail> {
-    let Some(peer) = peer_of(rt.alloc(), b"peer p { }") else {
-        return Err(Fail::from("no peer"));
-    };
-    let outputs = told_of(rt.alloc(), peer)?;
-    assert_eq!(rt; outputs.as_slice(), b"1 p new\ntaken 1\n".as_slice());
+    let script = script_of(rt.alloc(), b"line a/1 <x@y> r p\nflush\n")?;
+    let mut world = new_world(rt.alloc())?;
+    let outputs = outputs_of(rt.alloc(), &mut world, &script.steps)?;
+    assert_eq!(rt; outputs.as_slice(), b"1 p new r new\ntaken 1\n".as_slice());
+    Ok(())
+}
+
+#[test]
+fn an_armed_stop_outlives_a_refused_step(rt: HostRuntime) -> Result<(), Fail> {
+    let refused = script_of(rt.alloc(), b"peer p\nstop p 1 0\npart s\n")?;
+    let struck = script_of(rt.alloc(), b"line a/1 <x@y> p\nflush\n")?;
+    let mut world = new_world(rt.alloc())?;
+    assert!(rt; world.run(&refused.steps).is_err());
+    let outputs = outputs_of(rt.alloc(), &mut world, &struck.steps)?;
+    assert_eq!(rt; outputs.as_slice(), b"1 p new\nstopped\n".as_slice());
     Ok(())
 }
