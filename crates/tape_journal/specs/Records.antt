@@ -31,11 +31,11 @@ module _ {D : Type 0} {g : Ghosts D} where
   abbrev pub offset_of : SegmentReader D g → ℕ
   offset_of reader = reader.at
 
-  -- how many octets of the disk were not read yet
+  -- the number of octets of the disk that were not read yet
   abbrev pub left_of : SegmentReader D g → ℕ
   left_of reader = reader.len - reader.at
 
-  -- the records of these payloads were read, on an honest disk, and the next is to stand behind them
+  -- the records of these payloads were read, on an honest disk, and the next is to stand after them
   pub record HasComeTo (reader : SegmentReader D g) (payloads : List (List ℕ)) : Type 0 where
     pub honest : g.honest reader.disk
     pub read : HasRead (content (g.log reader.disk)) payloads reader.at
@@ -51,7 +51,7 @@ module _ {D : Type 0} {g : Ghosts D} where
     pub is : IsGiven given payload
     pub come : HasComeTo reader (payloads ++ payload ∷ [])
 
-  -- Nothing has happened to the disk, which is honest where it was; a fault comes only if it told one.
+  -- Nothing has happened to the disk, and it is as honest as it was. A fault comes only if the disk reported one.
   pub record KeepsDisk {T : Type 0} (old new : SegmentReader D g) (result : Result T OpenFault) : Type 0 where
     pub honest : g.honest old.disk ↔ g.honest new.disk
     pub log : g.honest old.disk → g.log new.disk ≡ g.log old.disk
@@ -71,7 +71,7 @@ module _ {D : Type 0} {g : Ghosts D} where
     pub less : IfOk result (λ o. IfSome o (λ _. left_of new < left_of old))
     pub keeps : KeepsDisk old new result
 
-  -- a record stands next whose payload has so many octets
+  -- a record stands next, whose payload has that many octets
   abbrev pub IsAtRecord : SegmentReader D g → ℕ → Type 0
   IsAtRecord reader size = BeginsRecord size (drop reader.at (content (g.log reader.disk)))
 
@@ -90,7 +90,7 @@ module _ {D : Type 0} {g : Ghosts D} where
   MovesOn old new (Held from count) = (from + count ≤ room_of new.window) × (left_of new < left_of old)
   MovesOn old new TooLong = left_of new < left_of old
 
--- the reader is one of which this holds, once what it gave is let go
+-- this holds of the reader, once what it gave is let go
 abbrev pub EndsWith : (D : RattleType) (g : Ghosts D.Denot) → MutBor (SegmentReader D.Denot g)
     → (SegmentReader D.Denot g → Type 0) → Fml
 EndsWith D g reader P = follows_so (the_row D g) (the_row D g) reader.ghost_name none (λ _ _. ⊤) P

@@ -12,17 +12,17 @@ use crate::read::{OPEN, PAYLOAD_MAX_OCTETS};
 use crate::{GatherFault, JournalFault, RenewFault};
 use std::alloc::{AllocError, Global};
 
-/// Payloads that are to be written at once, in the octets of their records, one behind another.
+/// Payloads that are to be written at once, kept as the octets of their records, one record after another.
 #[derive(Drop)]
 pub struct Gathered {
     octets: Vec<u8>,
 }
 
 impl Gathered {
-    /// No payload, and room for records of so many octets, each of five more than its payload.
+    /// No payload, and room for records of that many octets. A record has five octets more than its payload.
     ///
     /// # Errors
-    /// `NoMemory` where memory was refused.
+    /// `NoMemory` if memory was refused.
     pub fn with_room(alloc: Global, octets: usize) -> Result<Self, AllocError>
         ensures ok { IfOk result (λ gathered. Gathers gathered []) }
         ensures len { IfOk result (λ gathered. octets_in gathered ≡ 0) }
@@ -32,7 +32,7 @@ impl Gathered {
         })
     }
 
-    /// Adds a payload behind the others. Takes more room where what there is doesn't suffice.
+    /// Adds a payload after the others. Takes more room if what there is doesn't suffice.
     ///
     /// # Errors
     /// Tried in this order; nothing changes. `PayloadTooLong`, over 16,777,216 octets; `NoMemory`.
@@ -95,7 +95,7 @@ impl Gathered {
         Ok(gathered)
     }
 
-    // The segment at rest of its payloads, and where the end gate stands, unless it is refused.
+    // The segment at rest of its payloads and the offset of the end gate, unless it is refused.
     pub(crate) fn into_segment(self) -> Result<(Vec<u8>, u64), RenewFault>
         ensures full { IsErrOf result RenewFault.TapeFull
             ↔ (longest_segment < 1 + octets_in self) }
@@ -115,7 +115,7 @@ impl Gathered {
     }
 }
 
-// Adds the record of a payload, or a piece of it where memory is refused.
+// Adds the record of a payload, or only a piece of it if memory is refused.
 fn add_record(octets: &mut Vec<u8>, payload: &[u8]) -> Result<(), AllocError>
     requires { IsShort payload.now }
     ensures ok { OnOk result

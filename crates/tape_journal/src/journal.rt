@@ -27,7 +27,7 @@ pub struct Refused<D: Disk> {
         → Reads (content (D.log disk)) payloads → ⊥ },
 }
 
-/// A journal of payloads on a disk of its own: a segment whose records have open gates, with a closed gate behind.
+/// A journal of payloads on a disk of its own: a segment of records with open gates, and a closed gate after them.
 #[derive(Drop)]
 pub struct Journal<D: Disk> {
     pub(crate) alloc: Global,
@@ -43,7 +43,7 @@ pub struct Journal<D: Disk> {
 
 ghost use Rattle.tape_journal.specs.Words.{read_fault};
 
-// The fault of a reading where a record is to stand.
+// The fault of a reading at an offset at which a record is to stand.
 fn read_fault_of(fault: OpenFault) -> ReadFault
     ensures { result ≡ read_fault fault }
 {
@@ -66,15 +66,15 @@ impl<D: Disk> Journal<D> {
     ghost use Rattle.tape_journal.specs.Renew.{Works};
     ghost use Rattle.tape_journal.specs.Unrepaired.{read_disk, Finds};
 
-    /// Reads the payloads of a disk, front to back, and writes nothing.
+    /// Reads the payloads of a disk, in their order, and writes nothing.
     ///
     /// # Errors
-    /// The first that the reading meets: `Damaged` at the offset where the content has no reading, `Disk`, `NoMemory`.
-    /// The disk is handed back as it was.
+    /// The first that the reading meets: `Damaged` at the offset at which the content has no reading, `Disk`,
+    /// `NoMemory`. The disk is handed back as it was.
     pub fn read(alloc: Global, mut disk: D) -> Result<(Unrepaired<D>, Vec<Vec<u8>>), Refused<D>>
         ensures ok { D.honest disk → IfOk result (λ r. Finds r.0 (map vec_items r.1.items)) }
 
-        // Nothing has happened to the disk, whatever is answered.
+        // A refusal writes nothing either.
         ensures unchanged { D.honest disk → MatchResult result
             (λ r. D.log (read_disk r.0) ≡ D.log disk) (λ e. D.log e.disk ≡ D.log disk) }
 
@@ -101,11 +101,11 @@ impl<D: Disk> Journal<D> {
         }
     }
 
-    /// Reads the payloads of a disk, front to back, and repairs its end: what stands behind the end gate is cut off.
+    /// Reads the payloads of a disk, in their order, and repairs its end: what follows the end gate is cut off.
     ///
     /// # Errors
-    /// The first that the reading meets: `Damaged` at the offset where the content has no reading, `Disk`, `NoMemory`;
-    /// then `Disk` of the repair. The disk is handed back.
+    /// The first that the reading meets: `Damaged` at the offset at which the content has no reading, `Disk`,
+    /// `NoMemory`; then `Disk` of the repair. The disk is handed back.
     #[tactic(auto, using(crate::proofs::Ending::as_it_was))]
     pub fn open(alloc: Global, disk: D) -> Result<(Journal<D>, Vec<Vec<u8>>), Refused<D>>
         ensures ok { D.honest disk
@@ -122,7 +122,7 @@ impl<D: Disk> Journal<D> {
         Ok((journal, payloads))
     }
 
-    // The length of the records to add, where they are not refused at once.
+    // The length of the records to add, unless they are refused at once.
     fn room_for(&self, payloads: &[Vec<u8>]) -> Result<u64, AppendFault>
         ensures broken { IsErrOf result AppendFault.Broken ↔ IsBroken self.now }
         ensures too_long { IsErrOf result AppendFault.PayloadTooLong
@@ -154,7 +154,7 @@ impl<D: Disk> Journal<D> {
         Ok(added)
     }
 
-    /// Adds payloads behind the others. At `Ok` they are acknowledged: no stop takes them away. An empty list makes no
+    /// Adds payloads after the others. At `Ok` they are acknowledged: no stop takes them away. An empty list makes no
     /// disk call.
     ///
     /// # Errors
@@ -196,7 +196,7 @@ impl<D: Disk> Journal<D> {
     /// Reads back the payload whose record's gate stands at this offset.
     ///
     /// # Errors
-    /// `Broken` after a `Disk` of `append_all`; `NoMemory`; `Disk` where a read failed, or where no open record stands
+    /// `Broken` after a `Disk` of `append_all`; `NoMemory`; `Disk` if a read failed, or if no open record stands
     /// there, which an honest disk never gives at the offset of a payload's gate. None of them breaks the journal.
     pub fn payload_at(&mut self, offset: u64) -> Result<Vec<u8>, ReadFault>
         ensures payload { (prefix more : List (List ℕ)) (payload : List ℕ)
@@ -280,7 +280,7 @@ impl<D: Disk> Journal<D> {
     /// more if the last of them has what is asked. What they answer stays the same. Takes room for a piece.
     ///
     /// # Errors
-    /// `NoMemory` where memory was refused; nothing changes.
+    /// `NoMemory` if memory was refused; nothing changes.
     pub fn read_ahead(&mut self) -> Result<(), AllocError>
         ensures stays { (all : List (List ℕ)) → Holds self.old all → Holds self.new all }
         ensures disk { disk_of self.new ≡ disk_of self.old }
@@ -291,7 +291,7 @@ impl<D: Disk> Journal<D> {
         Ok(())
     }
 
-    /// Reads ahead no more, and lets go the room that it took for that.
+    /// Stops reading ahead, and frees the room that it took for that.
     pub fn read_singly(&mut self)
         ensures stays { (all : List (List ℕ)) → Holds self.old all → Holds self.new all }
         ensures disk { disk_of self.new ≡ disk_of self.old }

@@ -1,4 +1,4 @@
-// Reading a segment, front to back.
+// Reading a segment, from its beginning to its end.
 ghost use Rattle.std.specs.Prelude.{◌≡◌, ◌+◌, ◌-◌, ◌^◌, ◌<◌, ◌≤◌, ◌↔◌, ℕ, List};
 ghost use Rattle.std.specs.Prelude.{length, min, take, drop, IfOk, IfErr, OnOk, IsErrOf, MatchOption, IfSome};
 ghost use Rattle.std.specs.Prelude.{map, vec_items};
@@ -19,19 +19,19 @@ pub(crate) const OPEN: u8 = 0xa5;
 /// The longest payload, in octets.
 pub const PAYLOAD_MAX_OCTETS: u32 = 16777216;
 
-// How many octets a record has before its payload: the gate and the payload's length.
+// The number of octets that a record has before its payload: the gate and the payload's length.
 pub(crate) const RECORD_HEAD_OCTETS: u64 = 5;
 
-// What stands where a record or the end of a segment is to stand.
+// What stands at an offset at which a record or the end of a segment is to stand.
 #[derive(Clone, Copy)]
 pub(crate) enum Head {
     End,
     CutShort,
-    // A record whose payload has this many octets.
+    // A record. Its payload has that many octets.
     Record(u32),
 }
 
-// This many octets from an offset on.
+// `count` octets from an offset on.
 fn octets_at<D: Disk>(
     alloc: Global,
     window: &mut Window,
@@ -62,7 +62,7 @@ fn octets_at<D: Disk>(
     Ok(octets)
 }
 
-// The number that four octets tell.
+// The number that four octets spell, the greatest first.
 fn number_of(octets: &[u8]) -> u32
     requires { length octets.now ≡ 4 }
     ensures value { result ≡ from_be_bytes w32 octets.now }
@@ -71,7 +71,7 @@ fn number_of(octets: &[u8]) -> u32
     u32::from_be_bytes([octets[0], octets[1], octets[2], octets[3]])
 }
 
-// What a segment is that begins with these octets, and has so many: its first five, or all of them.
+// What stands at the beginning of a segment that has `left` octets. These are its first five, or all of them.
 fn head_of(octets: &[u8], left: u64) -> Head
     requires some { 0 < left }
     requires first { length octets.now ≡ min left 5 }
@@ -126,7 +126,7 @@ pub(crate) fn head_at<D: Disk>(
     Ok(head_of(first, left))
 }
 
-// The same, if so many octets from there on are wanted next: a window with room for them takes them up at once. So a
+// The same, if `wanted` octets from there on are read next: a window with room for them takes them up at once. So a
 // part of a record that lies past the window does not move the window past the record's head.
 fn head_before<D: Disk>(
     window: &mut Window,
@@ -154,7 +154,7 @@ fn head_before<D: Disk>(
     head_at(window, disk, at, len)
 }
 
-// The record at an offset before the segment's end, or None where the segment ends there.
+// The record at an offset before the disk's end, or None if the segment ends there.
 pub(crate) fn record_at<D: Disk>(
     alloc: Global,
     window: &mut Window,
@@ -189,7 +189,7 @@ pub(crate) fn record_at<D: Disk>(
     }
 }
 
-// The octets from `from` on, `most` of them at most, of the payload of the record at an offset before the segment's
+// The octets from `from` on, `most` of them at most, of the payload of the record at an offset before the disk's
 // end, or None if the segment ends there.
 pub(crate) fn part_of<D: Disk>(
     alloc: Global,
@@ -229,7 +229,7 @@ pub(crate) fn part_of<D: Disk>(
     Ok(Some(part))
 }
 
-// The payloads, front to back, and where the segment ends.
+// The payloads, in their order, and where the segment ends.
 pub(crate) fn payloads_of<D: Disk>(
     alloc: Global,
     disk: &mut D,
@@ -265,11 +265,11 @@ pub(crate) fn payloads_of<D: Disk>(
     Err(OpenFault::Damaged { at: end })
 }
 
-/// The payload of the first record, without a look at what stands behind it; `None` where the
-/// segment has none.
+/// The payload of the first record, without a look at what follows it; `None` if the segment has no
+/// record.
 ///
 /// # Errors
-/// `Damaged` at 0 where an open record is cut short; `Disk`; `NoMemory`. The disk is as it was.
+/// `Damaged` at 0 if an open record is cut short there; `Disk`; `NoMemory`. The disk is as it was.
 pub fn peek_first<D: Disk>(alloc: Global, disk: &mut D) -> Result<Option<Vec<u8>>, PeekFault>
     ensures ok { D.honest disk.old → IfOk result (λ o. MatchOption o
         (Ends (content (D.log disk.old))) (λ p. IsRecord p.items (content (D.log disk.old)))) }

@@ -26,13 +26,13 @@ pub enum ReadPayload<'a> {
 pub(crate) enum ReaderStep {
     // The segment ends there.
     End,
-    // Its payload has so many octets, which stand in the window from this place on.
+    // Its payload has `count` octets, which stand in the window from this place on.
     Held { from: usize, count: usize },
     // Its payload is too long to be given.
     TooLong,
 }
 
-/// A segment that is read record by record, front to back. Nothing is written, and no payload is kept.
+/// A segment that is read record by record, in their order. Nothing is written, and no payload is kept.
 #[derive(Drop)]
 pub struct SegmentReader<D: Disk> {
     alloc: Global,
@@ -63,7 +63,7 @@ impl<D: Disk> SegmentReader<D> {
     /// Begins to read the segment of a disk. Takes room for a piece of it, of at most 131,072 octets.
     ///
     /// # Errors
-    /// `NoMemory` alone. The disk is handed back as it was.
+    /// Only `NoMemory`. The disk is handed back as it was.
     pub fn begin(alloc: Global, disk: D) -> Result<Self, Refused<D>>
         ensures ok { D.honest disk → IfOk result (λ reader. HasComeTo reader []) }
         ensures disk { MatchResult result (λ reader. reader_disk reader ≡ disk)
@@ -90,7 +90,7 @@ impl<D: Disk> SegmentReader<D> {
     ///
     /// # Errors
     /// The reader stays where it was. `Damaged` at the offset at which the content has no reading: if a record is cut
-    /// short there, or if the disk ends there, right behind a record, whose payload isn't given then. `Disk`: a read
+    /// short there, or if the disk ends there, right after a record, whose payload isn't given then. `Disk`: a read
     /// failed.
     pub fn next(&mut self) -> Result<Option<ReadPayload<'_>>, OpenFault>
         ensures* next { sem 𝓛
@@ -110,7 +110,7 @@ impl<D: Disk> SegmentReader<D> {
         }
     }
 
-    // Goes on behind the next record, if there is one.
+    // Moves past the next record, if there is one.
     fn step(&mut self) -> Result<ReaderStep, OpenFault>
         ensures step { (payloads : List (List ℕ)) → HasComeTo self.old payloads
             → MatchResult result (IsStep self.new payloads) (λ _. HasComeTo self.new payloads) }
@@ -131,7 +131,7 @@ impl<D: Disk> SegmentReader<D> {
         }
     }
 
-    // Goes on behind a record whose payload has so many octets.
+    // Moves past a record whose payload has `size` octets.
     fn pass(&mut self, size: u32) -> Result<ReaderStep, OpenFault>
         requires { self.old.at + 5 + size ≤ self.old.len }
         ensures step { (payloads : List (List ℕ)) → HasComeTo self.old payloads
@@ -160,7 +160,7 @@ impl<D: Disk> SegmentReader<D> {
         Ok(ReaderStep::Held { from, count })
     }
 
-    /// Where the next record is to stand: how long the records are that were read, in octets.
+    /// Where the next record is to stand: the length of the records that were read, in octets.
     pub fn offset(&self) -> u64
         ensures { result ≡ offset_of self.now }
     {

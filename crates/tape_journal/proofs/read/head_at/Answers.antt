@@ -9,9 +9,11 @@ returns-then-has_room-clause-is g c honest len =
     let all = content (g.D.Disk.log c.args.disk.now) in
     let rest = drop c.args.at all in
     let left : length rest ≡ c.args.len - c.args.at = omega (arith, length-drop c.args.at all) in
-    let octets : c.lend.result.now ≡ take c.min-count.result rest = c.lend.ensures ∙ c.in_ok-from.ensures.octets honest in
-    c.head_of.ensures.is rest left
-    (first_five rest c.lend.result.now _ octets (omega (arith, left, ap length octets, length-take c.min-count.result rest, c.min-count.ensures)))
+    let octets : c.lend.result.now ≡ take c.min-count.result rest =
+    c.lend.ensures ∙ c.in_ok-from.ensures.octets honest in
+    let long : length c.lend.result.now ≡ min (length rest) 5 =
+    omega (arith, left, ap length octets, length-take c.min-count.result rest, c.min-count.ensures) in
+    c.head_of.ensures.is rest left (first_five rest c.lend.result.now _ octets long)
 
 pub returns-clause-is : goal.returns-clause-is
 returns-clause-is g c honest len =

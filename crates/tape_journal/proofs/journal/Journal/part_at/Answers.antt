@@ -9,7 +9,7 @@ use Rattle.tape_journal.specs.Words.{read_fault}
 use Rattle.tape_journal.proofs.Reading.{record_there, gate_within, one_record, record_ends, AllShort-mid}
 use Rattle.tape_journal.proofs.journal.Journal.part_at.Goals as goal
 
--- a fault of the disk, where no record is cut short
+-- a fault of the disk, if no record is cut short
 disk_alone : {Q : Type 0} (fault : OpenFault) → read_fault fault ≡ ReadDisk
     → ((at : ℕ) → fault ≡ Damaged at → ⊥) → (fault ≡ Disk → Q) → Q
 disk_alone (Damaged at) is whole disk = absurd (whole at refl)
