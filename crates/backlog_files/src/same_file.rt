@@ -10,7 +10,7 @@ pub(crate) struct FileId {
 }
 
 impl FileId {
-    /// The file with this metadata.
+    /// Takes the device and the inode number. A file keeps both when it is renamed.
     pub fn of(metadata: &Metadata) -> Self {
         FileId {
             device: metadata.dev(),

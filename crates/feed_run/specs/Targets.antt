@@ -6,7 +6,7 @@ use Rattle.feed_conf.specs.declared.conf.PeerConf.{PeerConf}
 use Rattle.feeder.specs.declared.target.PeerTarget.{PeerTarget}
 use Rattle.resolver.specs.declared.host.Host.{Host}
 
--- Where the peer with these settings is. A host whose name is no text has none.
+-- Where the peer with these settings is. A name that is not UTF-8 is left empty.
 pub record IsHostOf (conf : PeerConf) (host : Host) : Type 0 where
   pub name : (IsUtf8 conf.ip_name.items × (string_bytes host.name ≡ conf.ip_name.items))
       ⊎ ((IsUtf8 conf.ip_name.items → ⊥) × (string_bytes host.name ≡ []))

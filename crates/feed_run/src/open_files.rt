@@ -44,8 +44,8 @@ fn allowed() -> Option<u64> {
     Some(limit.rlim_cur)
 }
 
-/// How many connections each peer may have so that those of all peers fit into this room: as many as possible, the same
-/// number for each, and at least 1.
+/// How many connections each peer may have so that those of all peers fit into this room: the greatest such number,
+/// and at least 1.
 #[tactic(auto, using(crate::proofs::OneEach::one_each))]
 pub(crate) fn fair_share(peers: &[PeerConf], room: u64) -> u64
     ensures some { (1 ≤ result) × (result ≤ 64) }

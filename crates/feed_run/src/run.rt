@@ -188,15 +188,15 @@ fn open_spool<R, F: AllocGlobal, S: Drop, H: Spools<Store = S>, C, L>(
 
 // Runs the threads, writes the status file, and adds to `end` what went wrong and what is still owed.
 //
-// The `requires` are those of `Post::new`. They tie the blanks, of which the counting ledgers and the queues are made,
-// to these peers:
+// The `requires` are those of `Post::new`. They tie the blanks, of which the token ledgers and the queues are made, to
+// these peers:
 //
-// - `names`: the ledgers and queues `N` are named after these blanks and these peers. `feed` picks such an `N`
+// - `names`: the token ledgers and queues `N` are named after these blanks and these peers. `feed` picks such an `N`
 //   (`proofs/run/feed`).
-// - `blanks`: there is a queue for each peer, and each ledger is cut into as many parts as hold it. Who counts in a
-//   ledger holds one of its parts. The intake alone counts what is taken (`workers.parts ≡ 1`); two feeders and the
-//   flusher count what is answered and what is dropped (3). On the other side each station counts, one for each peer.
-//   So nobody else can count, and the workers' totals are those of the stations.
+// - `blanks`: there is a queue for each peer, and each token ledger has one part for each of its holders. Whoever
+//   counts in it holds one of its parts. Only the intake counts what is taken (`workers.parts ≡ 1`); two feeders and
+//   the flusher count what is answered and what is dropped (3). On the other side each station counts, one for each
+//   peer. So nobody else can count, and the workers' totals are those of the stations.
 // - `flushed`: nothing pends at a station, and it works, so that it can be split.
 fn work<
     N: Naming + Send + Sync,

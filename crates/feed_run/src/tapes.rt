@@ -24,7 +24,7 @@ pub(crate) struct Tapes {
 /// Opens the tapes in the backlog directory at this path, of these peers and then of the intake.
 ///
 /// # Errors
-/// Of the first tape that could not be opened.
+/// Why the first tape that could not be opened was refused.
 pub(crate) fn open_tapes<R: Clock, F: AllocGlobal + Files<File = File>>(
     rt: &R,
     files: &F,

@@ -10,7 +10,7 @@ use std::os::fd::AsRawFd;
 use std::rt::Files;
 
 // The greatest descriptor of a standard stream.
-const LAST: i32 = 2;
+const LAST_DESCRIPTOR: i32 = 2;
 
 /// The tokens that wait, from the lines of this file. A line that is not a funnel line is skipped, and so is one
 /// whose token cannot name a file, or is in a line before.
@@ -26,7 +26,7 @@ pub fn read_lines<R: AllocGlobal + Files<File = File>>(
         Ok(file) => file,
         Err(reason) => return Err(FilingFault::unread(alloc, path, reason)),
     };
-    if file.as_raw_fd() <= LAST {
+    if file.as_raw_fd() <= LAST_DESCRIPTOR {
         return Err(FilingFault::Closed);
     }
     let mut text = Vec::new(alloc);

@@ -79,7 +79,7 @@ IsPartFault peer Kind (Stranger at) = at ≡ peer
 IsPartFault peer Kind NoMemory = Unit {0}
 IsPartFault peer Kind fault = ⊥
 
--- the faults that `flush_all` returns, with this many peers
+-- the faults that `flush_all` returns, at a post of `peers` peers
 abbrev pub IsFlushAllFault : ℕ → PostFault → Type 0
 IsFlushAllFault peers (Station at fault) = (at < peers) × IsRoundFault fault
 IsFlushAllFault peers (Stranger at) = at < peers
@@ -91,7 +91,7 @@ IsFlushAllFault peers fault = ⊥
 abbrev pub IsWorkingFlushFault : StationFault → Type 0
 IsWorkingFlushFault fault = IsRoundFault fault × (fault ≢ BrokenStation)
 
--- the faults that `flush_working` returns, with this many peers
+-- the faults that `flush_working` returns, at a post of `peers` peers
 abbrev pub IsFlushWorkingFault : ℕ → PostFault → Type 0
 IsFlushWorkingFault peers (Station at fault) = (at < peers) × IsWorkingFlushFault fault
 IsFlushWorkingFault peers (Stranger at) = at < peers
@@ -106,7 +106,7 @@ IsPutOffFault fault = (fault ≡ BrokenStation) ⊎ (fault ≡ NotHeld)
 abbrev pub IsDiskFault : StationFault → Type 0
 IsDiskFault fault = (fault ≡ Tape Disk) ⊎ (fault ≡ BrokenStation)
 
--- the faults that `rotate_all` returns, with this many peers
+-- the faults that `rotate_all` returns, at a post of `peers` peers
 abbrev pub IsRotateAllFault : ℕ → PostFault → Type 0
 IsRotateAllFault peers (Station at fault) = (at < peers) × IsDiskFault fault
 IsRotateAllFault peers (Stranger at) = at < peers

@@ -1,4 +1,4 @@
--- What a station's lock keeps.
+-- A station on honest disks stands for some history. Peers are split from such stations.
 use Rattle.disk_model.specs.declared.Disk.{Ghosts}
 use Rattle.peer_queue.specs.declared.station.Station.{Station}
 use Rattle.peer_queue.specs.Words.{AreHonest, StandsFor}

@@ -1,4 +1,4 @@
--- The names of the six counting ledgers, and of the queues.
+-- The names of the six token ledgers, and of the queues.
 use Rattle.std.specs.Prelude.{◌≡◌, ℕ, List, [], Some, slice_get}
 use Rattle.atomic_table.specs.Seated.{TableId}
 use Rattle.ledger_core.specs.State.{State}
@@ -9,17 +9,17 @@ pub record Counts : Type 0 where
   pub answered : ℕ
   pub dropped : ℕ
 
--- what a ledger counts
+-- what the ledger of a tape counts
 abbrev pub counts_of : State → Counts
 counts_of state = record { taken = state.taken; answered = state.answered; dropped = state.dropped }
 
--- Two ledgers of one count: the one whose shares the workers have, and the one whose shares are beside the stations
+-- Two token ledgers of one count: the workers have the shares of one, and those of the other are beside the stations
 pub record Pair : Type 0 where
   pub workers : ℕ
   pub stations : ℕ
 
--- The names of the ledgers, how many stations there are, what all of them had counted when the ledgers were opened, and
--- the queue of each peer, by places.
+-- The names of the token ledgers, how many stations there are, what all of them had counted when the token ledgers were
+-- opened, and the queue of each peer, by places.
 pub record Names : Type 0 where
   pub taken : Pair
   pub answered : Pair
@@ -31,7 +31,7 @@ pub record Names : Type 0 where
 abbrev pub no_pair : Pair
 no_pair = record { workers = 0; stations = 0 }
 
--- the names of no ledger
+-- the names of no token ledger
 abbrev pub no_names : Names
 no_names = record {
   taken = no_pair;

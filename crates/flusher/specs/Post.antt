@@ -18,11 +18,11 @@ pub record View : Type 0 where
   pub names : List (List ℕ)
   pub opened : List Sums
 
--- what a ledger counts
+-- what the ledger of a tape counts
 abbrev pub sums_of : State → Sums
 sums_of state = record { taken = state.taken; answered = state.answered; dropped = state.dropped }
 
--- what a ledger of this shape counts
+-- what the ledger of a tape counts, by its shape
 abbrev pub sums_of_shape : Shape → Sums
 sums_of_shape shape = record { taken = shape.taken; answered = shape.answered; dropped = shape.dropped }
 
@@ -37,8 +37,8 @@ total sums = record {
 abbrev pub pair_of : BlankPair → Pair
 pair_of pair = record { workers = pair.workers.name; stations = pair.stations.name }
 
--- Unused ledgers, and queues, for this many peers. A ledger has as many parts as there are holders of a share of it:
--- the intake alone for what is taken; two feeders and the flusher for the other two counts; each station.
+-- Unused token ledgers, and queues, for `peers` peers. A token ledger has as many parts as there are holders of a
+-- share of it: the intake alone for what is taken; two feeders and the flusher for the other two counts; each station.
 pub record IsFor (peers : ℕ) (blanks : Blanks) : Type 0 where
   pub taken : (blanks.taken.workers.parts ≡ 1) × (blanks.taken.stations.parts ≡ peers)
   pub answered : (blanks.answered.workers.parts ≡ 3) × (blanks.answered.stations.parts ≡ peers)
@@ -50,7 +50,7 @@ module _ {D : Type 0} {g : Ghosts D} where
   abbrev pub sums_at : PostPeer D g → Sums
   sums_at peer = sums_of (ledger_of peer.station)
 
-  -- the names of these ledgers and queues, for these peers
+  -- the names of these token ledgers and queues, for these peers
   abbrev pub names_of : Blanks → List (PostPeer D g) → Names
   names_of blanks peers =
       record {

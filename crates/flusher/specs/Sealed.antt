@@ -12,7 +12,7 @@ use Rattle.recovery.specs.declared.tape.Tape.{Tape}
 abbrev pub noted_at : Front → ℕ
 noted_at front = min (settled_of front + front_pending front) (2 ^ 64 - 1)
 
--- this many of the front's notes are settled, as its tape counts them
+-- `count` of the front's notes, or more, are settled, as its tape counts them
 abbrev pub HasSettled : ℕ → Front → Type 0
 HasSettled count front = count ≤ settled_of front
 

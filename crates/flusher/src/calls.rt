@@ -330,7 +330,7 @@ impl<D: Disk, N: Naming> Post<D, N> {
         finish_in(peer, desk, &mut tally, connection, outcome, now, mine)
     }
 
-    // Remembers it if a call has brought a peer's front to half of the notes that may pend there.
+    // Sets the peer's flag if a call has brought its front to half of the notes that may pend there.
     pub(crate) fn note_half_full(&self, peer: usize, before: usize, now: usize)
         requires { peer < length self.now.names }
     {

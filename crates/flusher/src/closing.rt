@@ -74,7 +74,7 @@ pub struct Unclosed<D: Disk, N: Naming> {
     pub third: FeederShare<N>,
 }
 
-// The three ledgers beside the stations, as they are put together again.
+// The three token ledgers beside the stations, as they are put together again.
 #[derive(Drop)]
 struct Closing<N: Naming> {
     taken: Share<TakenAtStations<N>>,
@@ -251,7 +251,7 @@ struct Room {
     ghost room: { 1024 ≤ vec_capacity notes },
 }
 
-// Room for this many peers, and for the notes of their queues.
+// Room for `count` peers, and for the notes of their queues.
 fn rooms<D: Disk + Drop>(
     alloc: Global,
     count: usize,

@@ -20,7 +20,8 @@ pub enum PostFault {
     #[error("CountFull")]
     CountFull,
     /// The mark of this peer's front is not the share's; or the front or the tape that was found at its place is
-    /// another peer's; or the tape doesn't owe what the front does. No run meets it.
+    /// another peer's; or the tape doesn't owe what the front does; or the front doesn't accept the answer of a flush,
+    /// which is of another tape's place, or counts more than was sent. No run meets it.
     #[error("Stranger")]
     Stranger { peer: usize },
     /// Memory was refused.

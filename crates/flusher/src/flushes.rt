@@ -13,7 +13,7 @@ use std::rt::Clock;
 use std::sync::Wait;
 use std::time::Instant;
 
-// A flush that takes this many seconds or more is logged as slow.
+// A flush is logged as slow if it takes that many seconds or more.
 const SLOW_MIN_SECONDS: u64 = 1;
 
 /// Flushes all stations and the intake tape, for each order and once a second without one, until it is told to end.
@@ -56,8 +56,8 @@ impl<N: Naming> Flusher<N> {
         Ok(())
     }
 
-    // Flushes everything, and signals the receipt for this many orders. If the flush was ordered, what exceeds the
-    // limits is dropped first.
+    // Flushes everything, and signals the receipt for the first `orders` orders. If the flush was ordered, what exceeds
+    // the limits is dropped first.
     fn flush<D: Disk, R: Wait + Clock + Log, P: Pace>(
         &mut self,
         rt: &R,

@@ -43,7 +43,7 @@ pub struct FrontDesk<N: Naming> {
     pub(crate) acknowledged: Totals,
     // A flush or a rotation has failed since.
     pub(crate) has_failed: bool,
-    // Each share is exactly one part of its counting ledger.
+    // Each share is exactly one part of its token ledger.
     ghost one_part: { (taken.parts ≡ 1) × (answered.parts ≡ 1) × (dropped.parts ≡ 1) },
     ghost counted: { (taken.amount ≡ (front_shape (front_of seat.sender)).taken)
         × (answered.amount ≡ (front_shape (front_of seat.sender)).answered)
@@ -334,7 +334,7 @@ impl<N: Naming> FrontDesk<N> {
         self.seat.sender.front().noted()
     }
 
-    /// Whether this many notes were sent, as its tape counts them.
+    /// Whether `count` notes or more were sent, as its tape counts them.
     pub fn has_sent(&self, count: u64) -> bool
         ensures { IsTrue result ↔ count ≤ min (settled_of (front_of self.now.seat.sender)
             + sent_of (front_of self.now.seat.sender)) (2 ^ 64 - 1) }

@@ -1,4 +1,4 @@
-// The six counting ledgers, two for each of taken, answered and dropped, and the queues of the peers.
+// The six token ledgers, two for each of taken, answered and dropped, and the queues of the peers.
 ghost use Rattle.std.specs.Prelude.{◌≡◌, ◌+◌, ◌≤◌, ℕ, IfOk, length};
 ghost use Rattle.std.specs.Vec.{vec_capacity};
 ghost use Rattle.crossbeam_queue.specs.Passes.{IsPassOf, ruled_capacity, view};
@@ -10,7 +10,7 @@ use std::alloc::{AllocError, Global};
 use std::marker::{Brand, PhantomData};
 use std::sync::ledger::{Blank, Ledger};
 
-/// Names the ledgers and the queues of one `Post`.
+/// Names the token ledgers and the queues of one `Post`.
 pub trait Naming {
     ghost use Rattle.flusher.specs.Names.{Names};
 
@@ -23,7 +23,7 @@ impl Naming for Brand {
     ghost names = { no_names };
 }
 
-/// A ledger whose shares lie beside the stations.
+/// A token ledger whose shares lie beside the stations.
 pub trait AtStations: Ledger {
     /// What the stations had counted when it was opened.
     ghost opened: { ℕ };
@@ -95,7 +95,7 @@ impl<N: Naming> AtStations for DroppedAtStations<N> {
     ghost opened = { N.names.opened.dropped };
 }
 
-/// An unused ledger of the workers, and one of the stations.
+/// An unused token ledger of the workers, and one of the stations.
 #[derive(Drop)]
 pub struct BlankPair {
     pub workers: Blank,
@@ -112,7 +112,7 @@ pub struct BlankQueue {
     ghost whole: { view pass ≡ begun },
 }
 
-/// The six ledgers, unused, and a queue for each peer.
+/// The six token ledgers, unused, and a queue for each peer.
 #[derive(Drop)]
 pub struct Blanks {
     pub taken: BlankPair,
@@ -135,7 +135,7 @@ impl BlankPair {
 impl Blanks {
     ghost use Rattle.flusher.specs.Post.{IsFor};
 
-    /// Ledgers and queues for this many peers.
+    /// Token ledgers and queues for that many peers.
     ///
     /// # Errors
     /// `NoMemory` if memory was refused.
@@ -153,7 +153,7 @@ impl Blanks {
     }
 }
 
-// This many queues.
+// `count` new queues, with nothing in them.
 fn queues(alloc: Global, count: usize) -> Result<Vec<BlankQueue>, AllocError>
     ensures { IfOk result (λ queues. length queues.items ≡ count) }
 {

@@ -1,4 +1,4 @@
-// A post: the stations of all peers, each split, behind their locks.
+// A post: the stations of all peers, each split into a front and a tape, and their locks.
 ghost use Rattle.std.specs.Prelude.{◌≡◌, ℕ, ◌+◌, ◌-◌, ◌<◌, ◌≤◌, ◌^◌, List, map, length};
 ghost use Rattle.std.specs.Prelude.{sum_by, IfOk, IfErr, OnOk, OnErr};
 ghost use Rattle.std.specs.List.{All};
@@ -39,7 +39,7 @@ pub(crate) struct PeerDesk<D: Disk, N: Naming> {
     pub(crate) queue: NoteQueue,
     pub(crate) front: Mutex<FrontDesk<N>>,
     pub(crate) tape: Mutex<TapeDesk<D, N>>,
-    // Half of the notes that may pend at the front do, and no feeder was told yet.
+    // Half of the notes that may pend at the front do, and no feeder knows of it yet.
     pub(crate) half_full: AtomicBool,
     // How many feeders have given it up.
     pub(crate) given_up: AtomicU64,
@@ -60,7 +60,7 @@ pub(crate) struct Intake<D: Disk> {
 /// tally. Each of these two has a lock, too.
 ///
 /// A tape is synced under its own lock, and no other lock is held meanwhile. Only the flusher waits for a tape's lock,
-/// and whoever claims a debt whose texts are on the tape alone. Locks are taken in this order: the intake's alone;
+/// and whoever claims a debt whose texts only the tape has. Locks are taken in this order: the intake's alone;
 /// a tape's alone; a front's, and under it the tally's.
 #[derive(Drop)]
 pub struct Post<D: Disk, N: Naming> {
@@ -87,7 +87,7 @@ impl<D: Disk, N: Naming> Model for Post<D, N> {
         × (map (λ q. q.queue.table.shared.table_id) p.peers.items ≡ N.names.tables) };
 }
 
-// The three ledgers beside the stations, as they are cut.
+// The three token ledgers beside the stations, as they are cut.
 #[derive(Drop)]
 struct Openings<N: Naming> {
     taken: UncutLedger<TakenAtStations<N>>,

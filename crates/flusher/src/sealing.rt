@@ -48,7 +48,7 @@ impl Due {
     }
 }
 
-// This many notes are settled at a place, as their tape counts them. Only a front that has settled them makes one.
+// `count` notes are settled at a place, as their tape counts them. Only a front that has settled them makes one.
 #[derive(Clone, Copy)]
 pub(crate) struct Settlement {
     place: usize,

@@ -1,9 +1,10 @@
-// What the workers hold of the counting ledgers.
+// What the workers hold of the token ledgers.
 //
-// A counting ledger is a book with a total, cut into a fixed number of parts. A `Share` is an unforgeable token that
-// holds some of the parts and an amount; whoever adds to the total adds to a share's amount, and the amounts of all
-// parts together are the total. `parts ≡ 1` says that a share is exactly one part: once as many such shares as the
-// ledger has parts have come back, nobody else can have counted, and their amounts are the whole total.
+// A token ledger is a book with a total, cut into a fixed number of parts. It is std's, and has nothing to do with
+// the ledger of a tape. A `Share` is an unforgeable token that holds some of the parts and an amount; whoever adds to
+// the total adds to a share's amount, and the amounts of all parts together are the total. `parts ≡ 1` says that a
+// share is exactly one part: once as many such shares as the token ledger has parts have come back, nobody else can
+// have counted, and their amounts are the whole total.
 use crate::Naming;
 use crate::naming::{AnsweredByFeeders, DroppedByFeeders, TakenByIntake};
 use std::marker::Model;

@@ -122,7 +122,7 @@ impl Signals {
         self.stopped.load(Ordering::SeqCst)
     }
 
-    // The receipt of a flush that began after this many orders.
+    // The receipt of a flush that began after the first `orders` orders.
     fn receipt_since<R: Wait>(&self, rt: &R, orders: u64) -> Option<Receipt> {
         let latest = self.latest.lock(rt);
         if latest.orders >= orders {
@@ -147,7 +147,7 @@ impl Signals {
         }
     }
 
-    // Signals the receipt of a flush that began after this many orders.
+    // Signals the receipt of a flush that began after the first `orders` orders.
     pub(crate) fn answer<R: Wait>(&self, rt: &R, orders: u64, receipt: Receipt) {
         *self.latest.lock(rt) = Latest {
             orders,

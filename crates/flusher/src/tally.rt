@@ -1,4 +1,4 @@
-// The books of the counting ledgers (what those are is said in share.rt).
+// The books of the token ledgers (what those are is said in share.rt).
 ghost use Rattle.std.specs.Prelude.{◌≡◌, ℕ, ◌+◌, ◌-◌, ◌^◌, ◌<◌, ◌≤◌, IsTrue, ◌↔◌};
 ghost use Rattle.std.specs.Prelude.{◌⊎◌};
 ghost use Rattle.flusher.specs.Counted.{Counts, answered_by, dropped_by};
@@ -24,7 +24,7 @@ pub struct Books<W: Ledger, S: AtStations> {
     count: u64,
     workers: Book<W>,
     stations: Book<S>,
-    // No part of the stations' ledger.
+    // What is left of the stations' token ledger: no part of it.
     rest: Share<S>,
 }
 
@@ -45,7 +45,7 @@ impl<W: Ledger, S: AtStations> Books<W, S> {
         self.count >= u64::MAX - COUNTED_MAX_NOTES
     }
 
-    /// Counts this many more, in a worker's share and in a station's.
+    /// Adds `more` to the count, in a worker's share and in a station's.
     pub fn count(&mut self, worker: &mut Share<W>, station: &mut Share<S>, more: u64)
         requires parts { (0 < worker.old.parts) × (0 < station.old.parts) }
         requires room { self.old + more < 2 ^ 64 }
@@ -108,7 +108,7 @@ impl<N: Naming> Tally<N> {
     }
 }
 
-/// A counting ledger of the stations, while parts are cut off it.
+/// A token ledger of the stations, while parts are cut off it.
 #[derive(Drop)]
 pub struct UncutLedger<S: AtStations> {
     book: Book<S>,

@@ -20,7 +20,7 @@ pub trait Work<D: Disk, N: Naming> {
     );
 }
 
-/// A thread could not be started.
+/// The thread of a worker could not be started. No worker runs any more.
 #[derive(Clone, Copy, Debug, PartialEq, Eq)]
 pub struct NoThread;
 

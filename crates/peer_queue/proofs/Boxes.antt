@@ -113,7 +113,7 @@ same_pends notes old mid new one two = record {
   works = two.works ∙ one.works;
 }
 
--- a note that is refused for want of memory alone, and takes none, is taken
+-- a note that can be refused only for want of memory, and takes none, is taken
 pub done : {A E : Type 0} {P : Type 0} (result : Result A E) → OnOk result P → OnErr result ⊥ → P
 done (Ok a) ok err = ok
 done (Err e) ok err = absurd err

@@ -1,4 +1,4 @@
--- Where a station closes the source that is open.
+-- A station closes the source that is open.
 use Rattle.std.proofs.Common.{◌≡◌, ◌+◌, ◌^◌, ℕ, inl, inr, Ok, Err, refl, sym, ap, ◌∙◌, subst, arith}
 use Rattle.std.specs.Prelude.{◌<◌, ◌↔◌, IsErrOf}
 use Rattle.std.proofs.lemmas.Bool.{cases_lt}

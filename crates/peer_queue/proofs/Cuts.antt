@@ -100,7 +100,7 @@ prefix_cut limits all octets_without places prefix next owed room over is few en
       (found.0, found.1, found.2 ∙ ap (λ (n : ℕ). take n found.0) long)
 ]
 
--- as many of the first as there is room for are as many of all
+-- the first `room` of a longer prefix are the first `room` of all
 pub cut_again : (room : ℕ) (found set : List ℕ) → found ≡ take (room + 1) set → take room found ≡ take room set
 cut_again room found set is = ap (λ (l : List ℕ). take room l) is ∙ take-take room (room + 1) set (omega arith)
 

@@ -1,4 +1,4 @@
--- The end of a debt that a connection holds is a legal note, and the tape refuses it for want of room or memory alone.
+-- The end of a debt that a connection holds is a legal note, and the tape refuses it only for want of room or memory.
 use Rattle.std.proofs.Common.{◌≡◌, ◌==◌, ◌⊎◌, inl, inr, ℕ, zero, suc, ◌+◌, ◌<◌, ◌^◌, Bool, true, false, cond}
 use Rattle.std.proofs.Common.{Some, List, [], ◌∷◌, length, Err, refl, sym, ap, ◌∙◌, subst, arith}
 use Rattle.std.specs.Prelude.{◌↔◌, IsErrOf}
@@ -67,7 +67,7 @@ none_refused state note NotOwed legal refused = lacks-legal state note refused l
 none_refused state note CountFull legal refused = full-legal state note refused legal
 none_refused state note NoLedgerMemory legal refused = refused
 
--- a tape that works refuses a legal note for want of room or of memory alone
+-- a tape that works refuses a legal note only for want of room or of memory
 pub end_kind : (state : State) (note : Note) (fault : TapeFault) → IsLegal state note → IsNoteFault fault
     → (fault ≡ Broken → ⊥) → ((cause : LedgerFault) → fault ≡ RefusedNote cause → RefusesNote state note cause)
     → (station_fault fault ≡ TapeRefused PendingFull) ⊎ (station_fault fault ≡ NoMemory)

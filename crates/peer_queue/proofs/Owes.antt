@@ -59,7 +59,7 @@ refused_note state note new owed NotOwed refused = absurd (owed refused)
 refused_note state note new owed CountFull refused = refl
 refused_note state note new owed NoLedgerMemory refused = absurd refused
 
--- one that is not old, and lacks no debt, is refused for a count alone
+-- one that is not old, and lacks no debt, is refused only for a count
 pub note_fault : (state : State) (note : Note) → (IsOld state note → ⊥) → (LacksDebt state note → ⊥)
     → (fault : TapeFault) → IsNoteFault fault
     → ((other : LedgerFault) → fault ≡ RefusedNote other → RefusesNote state note other)

@@ -82,7 +82,7 @@ refused_shape shape note new owed NotOwed refused = absurd (owed refused)
 refused_shape shape note new owed CountFull refused = refl
 refused_shape shape note new owed NoLedgerMemory refused = absurd refused
 
--- one that is not old, and lacks no debt, is refused for a count alone
+-- one that is not old, and lacks no debt, is refused only for a count
 pub shape_fault : (shape : Shape) (note : Note) → (IsOldForShape shape note → ⊥) → (ShapeLacksDebt shape note → ⊥)
     → (fault : TapeFault) → IsNoteFault fault
     → ((other : LedgerFault) → fault ≡ RefusedNote other → RefusesByShape shape note other)
@@ -104,7 +104,7 @@ none_refused shape note NotOwed fits refused = lacks-fits shape note refused fit
 none_refused shape note CountFull fits refused = overflows-fits shape note refused fits
 none_refused shape note NoLedgerMemory fits refused = refused
 
--- a front that works refuses a legal note for want of room or of memory alone
+-- a front that works refuses a legal note only for want of room or of memory
 pub end_fault : (shape : Shape) (note : Note) (fault : TapeFault) → FitsShape shape note → IsNoteFault fault
     → (fault ≡ Broken → ⊥) → ((cause : LedgerFault) → fault ≡ RefusedNote cause → RefusesByShape shape note cause)
     → (station_fault fault ≡ TapeRefused PendingFull) ⊎ (station_fault fault ≡ NoMemory)

@@ -172,8 +172,8 @@ sized_fall shape places set n rising same new =
 
 -- ---- a prefix of the numbers that no connection holds
 
--- These are a prefix of the numbers that no connection holds, after which the candidate comes; without them this many octets are owed, and
--- without fewer of them more than the limit.
+-- These are a prefix of the numbers that no connection holds, after which the candidate comes. Without them `octets`
+-- octets are owed, and without fewer of them more than the limit.
 pub record IsPrefix (limit : ℕ) (octets_without : List ℕ → ℕ) (places : Places) (set : List ℕ) (candidate : Option ℕ)
     (octets : ℕ) : Type 0 where
   pub few : length set ≤ length (unheld places)

@@ -93,7 +93,7 @@ MeetsFull old connection number =
 
 module _ {D : Type 0} {g : Ghosts D} where
   -- The front of this station, of which no note pends, at this place: it owes the same debts at the same places, and
-  -- as many notes are settled as were put on the tape.
+  -- its count of settled notes is that of the notes put on the tape.
   pub record IsFrontOf (at : ℕ) (station : Station D g) (front : Front) : Type 0 where
     pub shape : front_shape front ≡ shape_of (ledger_of station)
     pub places : places_of front ≡ station_places station

@@ -15,7 +15,7 @@ OwesAt notes index key =
     (token : List ℕ) × (id : List ℕ) × (index < length notes)
     × (slice_index_or notes index (Owe key token id) ≡ Owe key token id)
 
--- If the note that owed a debt is one of these, its number is the debt's ordinal; this many notes were counted before
+-- If the note that owed a debt is one of these, its number is the debt's ordinal; `before` notes were counted before
 -- the first of these. This holds for ordinals of 64 bits.
 abbrev pub IsNumbered : ℕ → List Note → ℕ × ℕ → Type 0
 IsNumbered before notes entry =

@@ -60,7 +60,7 @@ pub record IsSameOutbox (old new : Outbox) : Type 0 where
 abbrev pub IsAnswerTo : Flushed → Outbox → Type 0
 IsAnswerTo flushed outbox = (flushed.place ≡ Some outbox.place) × (flushed.count ≤ outbox.settled + outbox.sent)
 
--- This many more of the notes are settled now. The last 8,192 settled ones are kept, as far as they were there.
+-- `more` further notes are settled now. The last 8,192 settled ones are kept, as far as they were there.
 pub record Learns (more : ℕ) (old new : Outbox) : Type 0 where
   pub settled : new.settled ≡ old.settled + more
   pub unsettled : unsettled_in new ≡ drop more (unsettled_in old)

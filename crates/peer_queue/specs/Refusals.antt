@@ -12,7 +12,7 @@ abbrev pub Tells : {A B : Type 0} → Result A (B × StationFault) → StationFa
 Tells result fault = IsErrAnd result (λ e. e.1 ≡ fault)
 
 -- When owing the line of this number is refused, in the order in which it is tried; its source was noted up to this
--- mark, and this many notes pend. Nothing has changed then.
+-- mark, and `pending` notes pend. Nothing has changed then.
 pub record RefusesLine {T : Type 0} (IsBroken Overflows IsSame : Type 0) (mark number pending : ℕ)
     (result : Result T StationFault) : Type 0 where
   pub broken : IsErrOf result Broken ↔ IsBroken
@@ -26,7 +26,7 @@ pub record RefusesLine {T : Type 0} (IsBroken Overflows IsSame : Type 0) (mark n
   pub kinds : IfErr result IsOweFault
   pub unchanged : OnErr result IsSame
 
--- When closing the open source is refused, in the order in which it is tried, if this many notes pend. Nothing has
+-- When closing the open source is refused, in the order in which it is tried, if `pending` notes pend. Nothing has
 -- changed then.
 pub record RefusesEnd (IsBroken Overflows IsLegal IsSame : Type 0) (pending : ℕ) (result : Result ℕ StationFault)
     : Type 0 where

@@ -13,7 +13,7 @@ use Rattle.peer_queue.specs.DebtPlace.{Places, unheld}
 abbrev pub owed_without : State → List ℕ → ℕ
 owed_without state numbers = octets_of_debts (filter (λ (debt : Owing). if list_any (λ (number : ℕ). number == debt.0) numbers then false else true) state.debts)
 
--- nothing is to be shed if this many octets are owed: there is no limit, or they are not above the high water
+-- nothing is to be shed if that many octets are owed: there is no limit, or they are not above the high water
 abbrev pub AreWithin : Limits → ℕ → Type 0
 AreWithin limits octets = (limits.backlog_limit ≡ 0) ⊎ (octets ≤ limits.backlog_high)
 

@@ -14,7 +14,8 @@ pub enum StationFault {
     /// That connection does not hold that debt.
     #[error("NotHeld")]
     NotHeld,
-    /// A `flush` or a `rotate` failed on a disk before.
+    /// A `flush` or a `rotate` failed on a disk before. A front is broken from the call `broke` on: its tape failed at
+    /// its owner.
     #[error("Broken")]
     Broken,
     /// The tape refused. A tape's `Broken` and `NoMemory` come as the station's own.

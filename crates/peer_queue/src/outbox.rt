@@ -26,8 +26,8 @@ const LYING_MAX_NOTES: usize = 8192;
 /// settled are kept for a while, so that a claim finds the texts of a fresh debt here.
 ///
 /// The notes are numbered as the tape counts them, from 1 on, and the outline keeps the number of the note that owed
-/// a debt: its ordinal. An ordinal of 0 means that the tape alone has the texts: of what was owed at the split, and of
-/// a note whose number would be above the greatest u64.
+/// a debt: its ordinal. An ordinal of 0 means that only the tape has the texts: the debt was owed at the split, or the
+/// number of its note would be above the greatest u64.
 #[derive(Drop)]
 pub(crate) struct Outbox {
     pub(crate) outline: Outline,
@@ -63,8 +63,8 @@ impl Outbox {
     ghost use Rattle.recovery.specs.Notes.{drops};
     ghost use Rattle.recovery.specs.Words.{IsNoteFault, Tells};
 
-    /// The outbox of a tape whose ledger has this outline, at this place, and which counts this many notes, none of
-    /// which pends.
+    /// The outbox of a tape whose ledger has this outline, at this place. The tape counts `settled` notes, and none of
+    /// them pends.
     pub fn new(alloc: Global, outline: Outline, place: usize, settled: u64, broken: bool) -> Self
         ensures shape { box_shape result ≡ shape_in outline }
         ensures notes { notes_in result ≡ [] }
@@ -183,7 +183,7 @@ impl Outbox {
         }
     }
 
-    // Reserves memory for this many more notes.
+    // Reserves memory for `count` more notes.
     fn make_room(&mut self, count: usize) -> Result<(), AllocError>
         ensures ok { OnOk result
             (length (notes_in self.new) + count ≤ deque_capacity self.new.notes) }
@@ -269,7 +269,7 @@ impl Outbox {
         }
     }
 
-    // Where among the notes here the one is that owes the debt of this key.
+    // The index of the note here that owes the debt of this key.
     fn index_of(&self, key: Key) -> Option<usize>
         ensures owed { IfSome result (λ index. IsSized (box_shape self.now) key) }
         ensures some { IfSome result (λ index. (at : ℕ) → OwesAt (notes_in self.now) at key
@@ -339,7 +339,7 @@ impl Outbox {
         }
     }
 
-    // This many more of the notes are settled now; all of them were sent.
+    // `more` further notes are settled now; all of them were sent.
     fn settle(&mut self, more: usize)
         requires sent { more ≤ self.old.sent }
         requires fits { self.old.settled + more < 2 ^ 64 }

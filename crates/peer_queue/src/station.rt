@@ -741,7 +741,7 @@ impl<D: Disk> Station<D> {
     }
 }
 
-// The index in which every debt of a tape is ready.
+// A tape keeps neither who held a debt nor how long one was to wait, so every debt of it is ready.
 fn index_of<D: Disk>(alloc: Global, tape: &Tape<D>) -> Result<PlaceIndex, AllocError>
     ensures places { IfOk result (λ index. index ≡ all_ready (keys (tape_ledger tape.now))) }
 {

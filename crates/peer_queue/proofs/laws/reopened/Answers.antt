@@ -41,7 +41,7 @@ returns-in-Err-open-clause-survives g c = λ h stands.
           (c.in-Err-open.ensures.recovers (flushed h) left.0 left.1 left.2).survives,
     )
 
--- a station tells of damage only where its tape does
+-- a station reports damage only if its tape does
 damaged_there : (fault : TapeFault) (segment at : ℕ) → station_fault fault ≡ Tape (Damaged segment at)
     → fault ≡ Damaged segment at
 damaged_there (Damaged s a) segment at told = cc
