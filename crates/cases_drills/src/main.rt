@@ -12,7 +12,7 @@ mod run;
 mod template;
 
 use fault::RowFault;
-use row::{Form, Row};
+use row::{CaseForm, DrillCase};
 use run::check_row;
 use std::process::ExitCode;
 use std::rt::Files;
@@ -22,7 +22,7 @@ const INDEX: &str = "rows";
 
 fn main(rt: HostRuntime) -> io::Result<ExitCode> {
     let index = fs::read_to_string(&rt, INDEX)?;
-    let Tally {
+    let CaseTally {
         rows,
         scripts,
         differ,
@@ -38,13 +38,13 @@ fn main(rt: HostRuntime) -> io::Result<ExitCode> {
 
 /// How many rows there are, how many scripts ran, and how many rows differ.
 #[derive(Clone, Copy)]
-struct Tally {
+struct CaseTally {
     rows: u64,
     scripts: u64,
     differ: u64,
 }
 
-impl Tally {
+impl CaseTally {
     fn add(&mut self, checked: &Result<u64, RowFault>) {
         self.rows = self.rows.saturating_add(1);
         match checked {
@@ -54,8 +54,8 @@ impl Tally {
     }
 }
 
-fn check_rows<R: AllocGlobal + Files + Print>(rt: &R, index: &str) -> io::Result<Tally> {
-    let mut tally = Tally {
+fn check_rows<R: AllocGlobal + Files + Print>(rt: &R, index: &str) -> io::Result<CaseTally> {
+    let mut tally = CaseTally {
         rows: 0,
         scripts: 0,
         differ: 0,
@@ -73,7 +73,7 @@ fn check_rows<R: AllocGlobal + Files + Print>(rt: &R, index: &str) -> io::Result
 
 // Runs the row of a line of the index, and returns how many scripts it has.
 fn check_line<R: AllocGlobal + Files>(rt: &R, line: &str) -> Result<u64, RowFault> {
-    match Row::read(line) {
+    match DrillCase::read(line) {
         Some(row) => check_row(rt, &row),
         None => Err(RowFault::Unlisted),
     }
@@ -111,7 +111,7 @@ fn count_unlisted<R: AllocGlobal + Files + Print + Clone + Drop>(
 
 fn is_row_file(file: &str) -> bool {
     file.split_once('.')
-        .is_some_and(|(_, form)| Form::read(form).is_some())
+        .is_some_and(|(_, form)| CaseForm::read(form).is_some())
 }
 
 fn is_listed(index: &str, file: &str) -> bool {

@@ -3,7 +3,7 @@ use drill::Ending;
 
 /// How a row's scripts are made of its file.
 #[derive(Clone, Copy)]
-pub enum Form {
+pub enum CaseForm {
     /// `NAME.drill` is the script.
     Script,
     /// `NAME.long` is the script; a line in it with a range `{FIRST..LAST}` stands for one line for each number.
@@ -12,13 +12,13 @@ pub enum Form {
     Each,
 }
 
-impl Form {
+impl CaseForm {
     /// The form of a file whose name ends with this word, after its dot.
-    pub fn read(word: &str) -> Option<Form> {
+    pub fn read(word: &str) -> Option<CaseForm> {
         match word {
-            "drill" => Some(Form::Script),
-            "long" => Some(Form::Long),
-            "each" => Some(Form::Each),
+            "drill" => Some(CaseForm::Script),
+            "long" => Some(CaseForm::Long),
+            "each" => Some(CaseForm::Each),
             _ => None,
         }
     }
@@ -26,30 +26,30 @@ impl Form {
 
 /// How the scripts of a row end, whichever line or tape is refused.
 #[derive(Clone, Copy, Debug, PartialEq, Eq)]
-pub enum End {
+pub enum CaseEnd {
     Done,
     Refused,
     NoTape,
     NoMemory,
 }
 
-impl End {
+impl CaseEnd {
     /// The end of a drill with this ending.
-    pub fn of(ending: Ending) -> End {
+    pub fn of(ending: Ending) -> CaseEnd {
         match ending {
-            Ending::Done => End::Done,
-            Ending::Refused(_) => End::Refused,
-            Ending::NoTape(_) => End::NoTape,
-            Ending::NoMemory => End::NoMemory,
+            Ending::Done => CaseEnd::Done,
+            Ending::Refused(_) => CaseEnd::Refused,
+            Ending::NoTape(_) => CaseEnd::NoTape,
+            Ending::NoMemory => CaseEnd::NoMemory,
         }
     }
 
-    fn read(word: &str) -> Option<End> {
+    fn read(word: &str) -> Option<CaseEnd> {
         match word {
-            "done" => Some(End::Done),
-            "refused" => Some(End::Refused),
-            "no_tape" => Some(End::NoTape),
-            "no_memory" => Some(End::NoMemory),
+            "done" => Some(CaseEnd::Done),
+            "refused" => Some(CaseEnd::Refused),
+            "no_tape" => Some(CaseEnd::NoTape),
+            "no_memory" => Some(CaseEnd::NoMemory),
             _ => None,
         }
     }
@@ -57,26 +57,26 @@ impl End {
 
 /// A row.
 #[derive(Clone, Copy)]
-pub struct Row<'a> {
+pub struct DrillCase<'a> {
     /// Its file, without the folder.
     pub file: &'a str,
     /// The part of the file name before the dot.
     pub name: &'a str,
-    pub form: Form,
+    pub form: CaseForm,
     /// How each script ends.
-    pub end: End,
+    pub end: CaseEnd,
 }
 
-impl<'a> Row<'a> {
+impl<'a> DrillCase<'a> {
     /// Reads a line of the index: the row's file, one space, and how its scripts end.
-    pub fn read(line: &'a str) -> Option<Row<'a>> {
+    pub fn read(line: &'a str) -> Option<DrillCase<'a>> {
         let (file, end) = line.split_once(' ')?;
         let (name, form) = file.split_once('.')?;
-        Some(Row {
+        Some(DrillCase {
             file,
             name,
-            form: Form::read(form)?,
-            end: End::read(end)?,
+            form: CaseForm::read(form)?,
+            end: CaseEnd::read(end)?,
         })
     }
 }

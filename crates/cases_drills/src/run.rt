@@ -2,7 +2,7 @@
 use crate::fault::RowFault;
 use crate::long::write_out;
 use crate::outputs::{first_difference, read_outputs};
-use crate::row::{End, Form, Row};
+use crate::row::{CaseEnd, CaseForm, DrillCase};
 use crate::template::Template;
 use drill::run_script;
 use std::alloc::Global;
@@ -14,7 +14,7 @@ use std::rt::Files;
 struct Wanted<'a> {
     // One of these is printed.
     outputs: &'a [String],
-    end: End,
+    end: CaseEnd,
 }
 
 /// Runs each script of a row, up to the first that prints or ends otherwise than it should. Returns how many there
@@ -22,18 +22,18 @@ struct Wanted<'a> {
 ///
 /// # Errors
 /// What is wrong with the row.
-pub fn check_row<R: AllocGlobal + Files>(rt: &R, row: &Row) -> Result<u64, RowFault> {
+pub fn check_row<R: AllocGlobal + Files>(rt: &R, row: &DrillCase) -> Result<u64, RowFault> {
     let alloc = rt.alloc();
     let name = row.name;
     let text = fs::read_to_string(rt, row.file)?;
     let printed = fs::read_to_string(rt, &format!(in alloc; "{name}.out")?)?;
     match row.form {
-        Form::Script => check_one(alloc, &text, printed, row.end),
-        Form::Long => {
+        CaseForm::Script => check_one(alloc, &text, printed, row.end),
+        CaseForm::Long => {
             let printed = write_out(alloc, &printed)?;
             check_one(alloc, &write_out(alloc, &text)?, printed, row.end)
         }
-        Form::Each => check_each(
+        CaseForm::Each => check_each(
             alloc,
             &Template::read(alloc, &text)?,
             &Wanted {
@@ -44,7 +44,7 @@ pub fn check_row<R: AllocGlobal + Files>(rt: &R, row: &Row) -> Result<u64, RowFa
     }
 }
 
-fn check_one(alloc: Global, script: &str, printed: String, end: End) -> Result<u64, RowFault> {
+fn check_one(alloc: Global, script: &str, printed: String, end: CaseEnd) -> Result<u64, RowFault> {
     let wanted = Wanted {
         outputs: &[printed],
         end,
@@ -79,7 +79,7 @@ fn difference_in(alloc: Global, what: &str, script: &str) -> RowFault {
 fn check_script(alloc: Global, script: &str, wanted: &Wanted) -> Result<(), RowFault> {
     let mut printed = Vec::new(alloc);
     let mut reader = script.as_bytes();
-    let end = End::of(run_script(alloc, &mut reader, &mut printed)?);
+    let end = CaseEnd::of(run_script(alloc, &mut reader, &mut printed)?);
     let Ok(printed) = String::from_utf8(printed) else {
         return Err(RowFault::NoText);
     };

@@ -1,6 +1,6 @@
 // Rows of backlog files.
 use crate::peers::{feed_from, feed_from_backlogs};
-use crate::row::{Row, list_owed, print_output};
+use crate::row::{FeedCase, list_owed, print_output};
 use anyhow::Result;
 use cli::{Order, Source};
 use std::fs;
@@ -27,7 +27,7 @@ pub(crate) fn backlog_files<R: AllocGlobal + Threads + Wait + Print + Send + Syn
 fn print_run<R: AllocGlobal + Threads + Wait + Print + Send + Sync + Drop + 'static>(
     rt: &R,
     host: HostRuntime,
-    row: &Row,
+    row: &FeedCase,
     what: &str,
     order: Order<'_>,
 ) -> Result<()> {
@@ -51,7 +51,7 @@ fn take_files<R: AllocGlobal + Threads + Wait + Print + Send + Sync + Drop + 'st
     rt: &R,
     host: HostRuntime,
 ) -> Result<()> {
-    let row = Row::new(rt, host, "backlogs")?;
+    let row = FeedCase::new(rt, host, "backlogs")?;
     let p = row.path("backlog/p")?;
     let text = b"a/1 <x@y>\nbad\na/2 <z@y> and more\n/a/3 <w@y>\na/4 <v@y>";
     fs::write(&host, p.as_str(), text)?;
@@ -73,7 +73,7 @@ fn meet_others<R: AllocGlobal + Threads + Wait + Print + Send + Sync + Drop + 's
     rt: &R,
     host: HostRuntime,
 ) -> Result<()> {
-    let row = Row::new(rt, host, "no_files")?;
+    let row = FeedCase::new(rt, host, "no_files")?;
     row.funnel(b"a/1 <x@y> p\n")?;
     let funnel = row.path("funnel")?;
     let (p, q) = (row.path("backlog/p")?, row.path("backlog/q")?);
@@ -100,7 +100,7 @@ fn meet_reserved<R: AllocGlobal + Threads + Wait + Print + Send + Sync + Drop + 
     rt: &R,
     host: HostRuntime,
 ) -> Result<()> {
-    let row = Row::new(rt, host, "reserved")?;
+    let row = FeedCase::new(rt, host, "reserved")?;
     let p = row.path("backlog/p")?;
     fs::write(&host, p.as_str(), b"a/1 <x@y> p\n")?;
     print_run(rt, host, &row, "the funnel is named p", feed_from(&p))?;

@@ -1,7 +1,7 @@
 // Rows of a clock that runs faster than the system's.
 use crate::feeds::Fast;
 use crate::peers::feed_from;
-use crate::row::{NOBODY, Row, print_output};
+use crate::row::{FeedCase, NOBODY, print_output};
 use anyhow::{Result, anyhow};
 use feed_run::System;
 use std::alloc::Global;
@@ -15,25 +15,25 @@ use std::thread::{self, Threads};
 use std::time::Duration;
 
 // How many times as fast it runs in rows with peers.
-const FAST: u32 = 30;
+const FAST_TIMES: u32 = 30;
 
 // How many times as fast it runs in the row that only waits for the status file.
-const FASTER: u32 = 600;
+const FASTER_TIMES: u32 = 600;
 
 // The seconds of the clock at which something came.
 #[derive(Drop)]
-struct Times {
+struct SeenTimes {
     seconds: Vec<u64>,
 }
 
-impl Times {
+impl SeenTimes {
     fn add(&mut self, system: &Fast) -> io::Result<()> {
         let now = system.time()?;
         self.seconds.push(now.as_secs())?;
         Ok(())
     }
 
-    // Whether at least this many seconds, less one for rounding, lie between these two times.
+    // Whether at least `seconds` seconds, less one for rounding, lie between these two times.
     fn is_late(&self, index: usize, seconds: u64) -> bool {
         let (Some(time), Some(before)) = (
             self.seconds.get(index.saturating_add(1)),
@@ -51,10 +51,13 @@ pub(crate) fn waits<R: AllocGlobal + Threads + Wait + Print + Send + Sync + Drop
     rt: &R,
     host: HostRuntime,
 ) -> Result<()> {
-    let row = Row::new(rt, host, "waits")?;
+    let row = FeedCase::new(rt, host, "waits")?;
     println!(rt; "-- p defers once, q closes three connections; the funnel stays open until then")?;
     let alloc = host.alloc();
-    let system = Fast { host, speed: FAST };
+    let system = Fast {
+        host,
+        speed: FAST_TIMES,
+    };
     let (reader, mut writer) = pipe(&host)?;
     writer.write_all(b"1 <1@x> p\n2 <2@x> q\n")?;
     let (deferred, closed) = (listen(host)?, listen(host)?);
@@ -65,7 +68,7 @@ pub(crate) fn waits<R: AllocGlobal + Threads + Wait + Print + Send + Sync + Drop
     )?;
     let p = thread::spawn(rt, move || defer_once(alloc, deferred, system))?;
     let q = thread::spawn(rt, move || close_thrice(alloc, closed, system, writer))?;
-    let output = feed_pipe(rt, &row, FAST, &conf, &reader)?;
+    let output = feed_pipe(rt, &row, FAST_TIMES, &conf, &reader)?;
     let (p, q) = (p.join(rt), q.join(rt));
     println!(rt; "offered again after 60 s: {}", p.is_late(0, 60))?;
     println!(rt; "connected again after 30 s: {}", q.is_late(0, 30))?;
@@ -80,7 +83,7 @@ fn listen(host: HostRuntime) -> io::Result<TcpListener> {
 // Feeds from what comes out of a pipe.
 fn feed_pipe<R: Threads + Wait + Send + Sync + Drop + 'static>(
     rt: &R,
-    row: &Row,
+    row: &FeedCase,
     speed: u32,
     conf: &str,
     reader: &PipeReader,
@@ -90,8 +93,8 @@ fn feed_pipe<R: Threads + Wait + Send + Sync + Drop + 'static>(
 }
 
 // Has one session, and answers the first CHECK with 431. Returns the times of the CHECKs.
-fn defer_once(alloc: Global, listener: TcpListener, system: Fast) -> Times {
-    let mut times = Times {
+fn defer_once(alloc: Global, listener: TcpListener, system: Fast) -> SeenTimes {
+    let mut times = SeenTimes {
         seconds: Vec::new(alloc),
     };
     if let Ok((stream, _)) = listener.accept() {
@@ -104,7 +107,7 @@ fn check_twice(
     alloc: Global,
     stream: &TcpStream,
     system: Fast,
-    times: &mut Times,
+    times: &mut SeenTimes,
 ) -> io::Result<()> {
     let mut writer = stream;
     writer.write_all(b"200 hi\r\n")?;
@@ -135,8 +138,13 @@ fn check_twice(
 }
 
 // Closes three connections, and then the source of the funnel. Returns the times at which they came.
-fn close_thrice(alloc: Global, listener: TcpListener, system: Fast, funnel: PipeWriter) -> Times {
-    let mut times = Times {
+fn close_thrice(
+    alloc: Global,
+    listener: TcpListener,
+    system: Fast,
+    funnel: PipeWriter,
+) -> SeenTimes {
+    let mut times = SeenTimes {
         seconds: Vec::new(alloc),
     };
     for _ in 0..3 {
@@ -155,12 +163,12 @@ pub(crate) fn status<R: AllocGlobal + Threads + Wait + Print + Send + Sync + Dro
     rt: &R,
     host: HostRuntime,
 ) -> Result<()> {
-    let row = Row::new(rt, host, "status")?;
+    let row = FeedCase::new(rt, host, "status")?;
     println!(rt; "-- the funnel is silent until the status file is there")?;
     let alloc = host.alloc();
     let system = Fast {
         host,
-        speed: FASTER,
+        speed: FASTER_TIMES,
     };
     let (reader, mut writer) = pipe(&host)?;
     writer.write_all(b"1 <1@x> p\n")?;
@@ -168,7 +176,7 @@ pub(crate) fn status<R: AllocGlobal + Threads + Wait + Print + Send + Sync + Dro
     let begun = system.time()?;
     let conf = format!(in alloc; "peer p {{ port-number: {NOBODY} }}\n")?;
     let seen = thread::spawn(rt, move || await_file(system, path, writer))?;
-    let output = feed_pipe(rt, &row, FASTER, &conf, &reader)?;
+    let output = feed_pipe(rt, &row, FASTER_TIMES, &conf, &reader)?;
     let Some(seen) = seen.join(rt) else {
         return Err(anyhow!("there is no status file"));
     };

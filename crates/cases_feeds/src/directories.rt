@@ -1,5 +1,5 @@
 // Rows of funnels that are directories of segments.
-use crate::row::{NOBODY, Row, RunOutput, list_owed, print_output};
+use crate::row::{FeedCase, NOBODY, RunOutput, list_owed, print_output};
 use anyhow::{Result, anyhow};
 use cli::{Order, Source};
 use std::fs::{self, OpenOptions};
@@ -58,7 +58,7 @@ struct FunnelDirectory {
 }
 
 impl FunnelDirectory {
-    fn new(host: HostRuntime, row: &Row) -> Result<Self> {
+    fn new(host: HostRuntime, row: &FeedCase) -> Result<Self> {
         let directory = FunnelDirectory {
             host,
             directory: row.path("funnel")?,
@@ -158,7 +158,7 @@ fn order(path: &str, mode: ReadMode) -> Order<'_> {
 // further.
 fn print_run<R: AllocGlobal + Threads + Wait + Print + Send + Sync + Drop + 'static>(
     rt: &R,
-    row: &Row,
+    row: &FeedCase,
     directory: &FunnelDirectory,
     run: &RunCase,
 ) -> Result<()> {
@@ -463,7 +463,7 @@ pub(crate) fn read_directories<
     R: AllocGlobal + Threads + Wait + Print + Send + Sync + Drop + 'static,
 >(rt: &R, host: HostRuntime) -> Result<()> {
     for (name, runs) in ROWS {
-        let row = Row::new(rt, host, name)?;
+        let row = FeedCase::new(rt, host, name)?;
         let directory = FunnelDirectory::new(host, &row)?;
         for run in runs {
             print_run(rt, &row, &directory, run)?;
@@ -477,7 +477,7 @@ pub(crate) fn read_directories<
 
 fn print_owed<R: AllocGlobal + Threads + Wait + Print + Send + Sync + Drop + 'static>(
     rt: &R,
-    row: &Row,
+    row: &FeedCase,
 ) -> Result<()> {
     let conf = format!(in rt.alloc(); "peer p {{ port-number: {NOBODY} }}\n")?;
     println!(rt; "-- and is owed")?;
@@ -489,7 +489,7 @@ fn await_first<R: AllocGlobal + Threads + Wait + Print + Send + Sync + Drop + 's
     rt: &R,
     host: HostRuntime,
 ) -> Result<()> {
-    let row = Row::new(rt, host, "awaited")?;
+    let row = FeedCase::new(rt, host, "awaited")?;
     let (directory, writer) = (
         FunnelDirectory::new(host, &row)?,
         FunnelDirectory::new(host, &row)?,
@@ -516,7 +516,7 @@ fn meet_pipe<R: AllocGlobal + Threads + Wait + Print + Send + Sync + Drop + 'sta
     rt: &R,
     host: HostRuntime,
 ) -> Result<()> {
-    let row = Row::new(rt, host, "piped")?;
+    let row = FeedCase::new(rt, host, "piped")?;
     let directory = FunnelDirectory::new(host, &row)?;
     let (reader, _writer) = pipe(&host)?;
     let target = row.pipe_path(reader.as_raw_fd())?;
@@ -528,7 +528,7 @@ fn meet_pipe<R: AllocGlobal + Threads + Wait + Print + Send + Sync + Drop + 'sta
         steps: &[],
     };
     print_run(rt, &row, &directory, &run)?;
-    let file = Row::new(rt, host, "tidied_file")?;
+    let file = FeedCase::new(rt, host, "tidied_file")?;
     file.lines(1)?;
     println!(rt; "-- a file is to be tidied")?;
     let conf = format!(in rt.alloc(); "peer p {{ port-number: {NOBODY} }}\n")?;
@@ -544,7 +544,7 @@ fn read_long<R: AllocGlobal + Threads + Wait + Print + Send + Sync + Drop + 'sta
     rt: &R,
     host: HostRuntime,
 ) -> Result<()> {
-    let row = Row::new(rt, host, "long_segments")?;
+    let row = FeedCase::new(rt, host, "long_segments")?;
     let directory = FunnelDirectory::new(host, &row)?;
     let mut wanted = Vec::new(host.alloc());
     for (first, end) in [(1, 1_001), (1_001, 1_501), (1_501, 2_001)] {

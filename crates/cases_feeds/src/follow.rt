@@ -1,6 +1,6 @@
 // Rows of funnels that are followed.
 use crate::feeds::Fast;
-use crate::row::{NOBODY, Row, RunOutput, list_owed, print_lines, print_output};
+use crate::row::{FeedCase, NOBODY, RunOutput, list_owed, print_lines, print_output};
 use anyhow::{Result, anyhow};
 use cli::{Order, Source};
 use feed_run::System;
@@ -14,11 +14,11 @@ use std::thread::{self, Threads};
 use std::time::Duration;
 
 // How many times as fast the clock runs in the row whose connections are closed.
-const FAST: u32 = 30;
+const FAST_TIMES: u32 = 30;
 
 // How many times as fast it runs in the row with idle connections: a feeder that nothing wakes looks once a second of
 // the system's clock, so once in 20 of these.
-const IDLE: u32 = 20;
+const IDLE_TIMES: u32 = 20;
 
 // After how many seconds of that clock a peer closes an idle connection itself.
 const CLOSES_AFTER_SECONDS: u64 = 50;
@@ -58,7 +58,7 @@ struct Doing {
 }
 
 impl Doing {
-    fn new(host: HostRuntime, row: &Row, deeds: &'static [Deed]) -> Result<Self> {
+    fn new(host: HostRuntime, row: &FeedCase, deeds: &'static [Deed]) -> Result<Self> {
         Ok(Doing {
             host,
             text: Vec::new(host.alloc()),
@@ -107,7 +107,7 @@ fn add(host: HostRuntime, path: &str, text: &[u8]) -> io::Result<()> {
 fn run_deeds<R: Threads + Wait + Send + Sync + Drop + 'static>(
     rt: &R,
     host: HostRuntime,
-    row: &Row,
+    row: &FeedCase,
     port: u16,
     deeds: &'static [Deed],
 ) -> Result<RunOutput> {
@@ -125,7 +125,7 @@ pub(crate) fn grows<R: AllocGlobal + Threads + Wait + Print + Send + Sync + Drop
     rt: &R,
     host: HostRuntime,
 ) -> Result<()> {
-    let row = Row::new(rt, host, "follow")?;
+    let row = FeedCase::new(rt, host, "follow")?;
     row.lines(2)?;
     let stop = row.path("backlog/~stop")?;
     fs::write(&host, stop.as_str(), b"of the run before")?;
@@ -156,7 +156,7 @@ pub(crate) fn grows<R: AllocGlobal + Threads + Wait + Print + Send + Sync + Drop
 struct IdlePeer {
     // How long it heard nothing before it was asked to end, in seconds of the clock.
     idle: u64,
-    // How many connections it had.
+    // How many connections it accepted, one after another.
     connections: u64,
 }
 
@@ -166,7 +166,7 @@ pub(crate) fn idle<R: AllocGlobal + Threads + Wait + Print + Send + Sync + Drop 
     rt: &R,
     host: HostRuntime,
 ) -> Result<()> {
-    let row = Row::new(rt, host, "idle")?;
+    let row = FeedCase::new(rt, host, "idle")?;
     row.lines(1)?;
     println!(rt; "-- p has an article a connection: it is left, closes it itself, is left")?;
     let alloc = host.alloc();
@@ -178,7 +178,7 @@ pub(crate) fn idle<R: AllocGlobal + Threads + Wait + Print + Send + Sync + Drop 
     let (funnel, stop) = (row.path("funnel")?, row.path("backlog/~stop")?);
     let peer = thread::spawn(rt, move || be_idle(host, alloc, listener, funnel, stop))?;
     let path = row.path("funnel")?;
-    let output = row.obey_conf(rt, IDLE, &conf, follow(&path))?;
+    let output = row.obey_conf(rt, IDLE_TIMES, &conf, follow(&path))?;
     let Some(seen) = peer.join(rt) else {
         return Err(anyhow!("the peer failed"));
     };
@@ -195,7 +195,10 @@ fn be_idle(
     funnel: String,
     stop: String,
 ) -> Option<IdlePeer> {
-    let system = Fast { host, speed: IDLE };
+    let system = Fast {
+        host,
+        speed: IDLE_TIMES,
+    };
     let mut seen = IdlePeer {
         idle: 0,
         connections: 0,
@@ -246,7 +249,7 @@ fn converse(alloc: Global, stream: &TcpStream, system: Fast, closes: bool) -> io
             writer.write_all(b"\r\n")?;
             if closes {
                 system.host.sleep(Duration::from_millis(
-                    CLOSES_AFTER_SECONDS * 1_000 / u64::from(IDLE),
+                    CLOSES_AFTER_SECONDS * 1_000 / u64::from(IDLE_TIMES),
                 ));
                 return Ok(idle);
             }
@@ -263,7 +266,7 @@ pub(crate) fn closes<R: AllocGlobal + Threads + Wait + Print + Send + Sync + Dro
     rt: &R,
     host: HostRuntime,
 ) -> Result<()> {
-    let row = Row::new(rt, host, "closes")?;
+    let row = FeedCase::new(rt, host, "closes")?;
     row.lines(1)?;
     println!(rt; "-- p closes three connections behind 203")?;
     let alloc = host.alloc();
@@ -275,7 +278,7 @@ pub(crate) fn closes<R: AllocGlobal + Threads + Wait + Print + Send + Sync + Dro
     let stop = row.path("backlog/~stop")?;
     let peer = thread::spawn(rt, move || close_agreed(host, alloc, listener, stop))?;
     let path = row.path("funnel")?;
-    let output = row.obey_conf(rt, FAST, &conf, follow(&path))?;
+    let output = row.obey_conf(rt, FAST_TIMES, &conf, follow(&path))?;
     let waited = peer.join(rt).unwrap_or(0);
     println!(rt; "a connection each 30 s: {}", waited >= 58)?;
     // Whether the line is put off, which is logged, depends on how much was sent before each close.
@@ -291,7 +294,10 @@ fn close_agreed(
     listener: TcpListener,
     stop: String,
 ) -> Option<u64> {
-    let system = Fast { host, speed: FAST };
+    let system = Fast {
+        host,
+        speed: FAST_TIMES,
+    };
     let mut first = None;
     let mut waited = 0;
     for _ in 0..3 {

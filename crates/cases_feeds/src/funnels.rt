@@ -1,6 +1,6 @@
 // Rows of funnels: long ones, silent ones, and lines that go nowhere.
 use crate::peers::feed_from;
-use crate::row::{NOBODY, Row, list_owed, print_output};
+use crate::row::{FeedCase, NOBODY, list_owed, print_output};
 use anyhow::{Result, anyhow};
 use std::io::{self, PipeWriter, Write, pipe};
 use std::os::fd::AsRawFd;
@@ -12,7 +12,7 @@ pub(crate) fn long_funnel<R: AllocGlobal + Threads + Wait + Print + Send + Sync 
     rt: &R,
     host: HostRuntime,
 ) -> Result<()> {
-    let row = Row::new(rt, host, "long")?;
+    let row = FeedCase::new(rt, host, "long")?;
     let conf = format!(in host.alloc(); "peer p {{ port-number: {NOBODY} }}\n")?;
     let path = row.path("funnel")?;
     for (count, what) in [(1_200, "1,200 lines of 80 octets"), (2_000, "2,000 lines")] {
@@ -43,7 +43,7 @@ pub(crate) fn shed<R: AllocGlobal + Threads + Wait + Print + Send + Sync + Drop 
     rt: &R,
     host: HostRuntime,
 ) -> Result<()> {
-    let row = Row::new(rt, host, "shed")?;
+    let row = FeedCase::new(rt, host, "shed")?;
     row.lines(300)?;
     println!(rt; "-- 300 lines, 100 octets may be owed")?;
     let conf = format!(in host.alloc();
@@ -62,7 +62,7 @@ pub(crate) fn nowhere<R: AllocGlobal + Threads + Wait + Print + Send + Sync + Dr
     rt: &R,
     host: HostRuntime,
 ) -> Result<()> {
-    let row = Row::new(rt, host, "nowhere")?;
+    let row = FeedCase::new(rt, host, "nowhere")?;
     let mut text = Vec::from_slice(
         host.alloc(),
         b"1 <1@x> p\n2 <2@x> q.example\n3 <3@x> r q.example p q.example\n4\n../5 <5@x> p\n\n7 <7@x>\n",
@@ -113,7 +113,7 @@ pub(crate) fn silent_pipe<R: AllocGlobal + Threads + Wait + Print + Send + Sync 
     rt: &R,
     host: HostRuntime,
 ) -> Result<()> {
-    let row = Row::new(rt, host, "pipe")?;
+    let row = FeedCase::new(rt, host, "pipe")?;
     println!(rt; "-- a pipe that is closed once all its lines are acknowledged")?;
     let (reader, mut writer) = pipe(&host)?;
     writer.write_all(b"1 <1@x> p\n2 <2@x> p\n")?;

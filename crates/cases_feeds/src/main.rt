@@ -22,7 +22,7 @@ use follow::{closes, grows, idle};
 use funnels::{long_funnel, nowhere, shed, silent_pipe};
 use peer::Manner;
 use peers::four_peers;
-use row::Row;
+use row::FeedCase;
 use std::fs;
 use std::sync::Wait;
 use std::thread::Threads;
@@ -34,42 +34,42 @@ fn main(rt: HostRuntime) -> Result<()> {
     // What a run that was interrupted has left.
     let _ = fs::remove_dir_all(&rt, "rows");
 
-    let row = Row::new(&rt, rt, "nobody")?;
+    let row = FeedCase::new(&rt, rt, "nobody")?;
     row.spool(300)?;
     row.lines(300)?;
     row.take(&rt, "nobody listens")?;
     row.owed(&rt, "and is owed")?;
 
-    let row = Row::new(&rt, rt, "many")?;
+    let row = FeedCase::new(&rt, rt, "many")?;
     row.lines(300)?;
     row.feed_many(&rt, "it streams")?;
     row.owed(&rt, "and is owed")?;
 
-    let row = Row::new(&rt, rt, "stream")?;
+    let row = FeedCase::new(&rt, rt, "stream")?;
     row.lines(3)?;
     row.take(&rt, "three lines, nobody listens")?;
     row.feed(&rt, Manner::Streams, "it streams")?;
 
-    let row = Row::new(&rt, rt, "ihave")?;
+    let row = FeedCase::new(&rt, rt, "ihave")?;
     row.lines(3)?;
     row.take(&rt, "three lines, nobody listens")?;
     row.feed(&rt, Manner::Ihave, "it knows IHAVE alone")?;
 
-    let row = Row::new(&rt, rt, "defer")?;
+    let row = FeedCase::new(&rt, rt, "defer")?;
     row.lines(3)?;
     row.take(&rt, "three lines, nobody listens")?;
     row.feed(&rt, Manner::Defers, "it defers")?;
     row.owed(&rt, "and is owed")?;
     row.feed(&rt, Manner::Streams, "it streams")?;
 
-    let row = Row::new(&rt, rt, "end")?;
+    let row = FeedCase::new(&rt, rt, "end")?;
     row.lines(1)?;
     row.take(&rt, "one line, nobody listens")?;
     row.feed(&rt, Manner::Ends, "it ends the session behind the article")?;
     row.feed(&rt, Manner::Silent, "it says nothing")?;
     row.feed(&rt, Manner::Streams, "it streams")?;
 
-    let row = Row::new(&rt, rt, "cut")?;
+    let row = FeedCase::new(&rt, rt, "cut")?;
     row.lines(1)?;
     row.take(&rt, "one line, nobody listens")?;
     for octets in 0..=ANSWERS_OCTETS {
@@ -98,7 +98,7 @@ fn gone<R: AllocGlobal + Threads + Wait + Print + Send + Sync + Drop + 'static>(
     rt: &R,
     host: HostRuntime,
 ) -> Result<()> {
-    let row = Row::new(rt, host, "gone")?;
+    let row = FeedCase::new(rt, host, "gone")?;
     row.lines_of_gone(300)?;
     row.take(rt, "300 lines, nobody listens")?;
     row.feed(
@@ -114,7 +114,7 @@ fn short<R: AllocGlobal + Threads + Wait + Print + Send + Sync + Drop + 'static>
     rt: &R,
     host: HostRuntime,
 ) -> Result<()> {
-    let row = Row::new(rt, host, "short")?;
+    let row = FeedCase::new(rt, host, "short")?;
     row.lines(3)?;
     row.take(rt, "three lines, nobody listens")?;
     row.lines_cut_short(3)?;

@@ -16,7 +16,7 @@ pub(crate) enum Manner {
     Ends,
     /// It says nothing.
     Silent,
-    /// It streams; in its first session it sends this many octets, then the end of the stream, and no more.
+    /// It streams; in its first session it sends that many octets, then the end of the stream, and no more.
     Cut(usize),
 }
 

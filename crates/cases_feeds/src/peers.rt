@@ -1,6 +1,6 @@
 // Rows of several peers.
 use crate::peer::{Heard, Manner, PATIENCE_SECONDS, serve};
-use crate::row::{NOBODY, Row, list_owed, print_lines, print_output};
+use crate::row::{FeedCase, NOBODY, list_owed, print_lines, print_output};
 use anyhow::{Result, anyhow};
 use cli::{Order, Source};
 use std::io::Write;
@@ -18,7 +18,7 @@ pub(crate) fn four_peers<R: AllocGlobal + Threads + Wait + Print + Send + Sync +
     rt: &R,
     host: HostRuntime,
 ) -> Result<()> {
-    let row = Row::new(rt, host, "four")?;
+    let row = FeedCase::new(rt, host, "four")?;
     row.funnel(LINES)?;
     println!(rt; "-- eight lines, nobody listens")?;
     let conf = conf_of(host, NOBODY, NOBODY, NOBODY)?;

@@ -15,7 +15,7 @@ pub(crate) const NOBODY: u16 = 1;
 
 /// A backlog directory of its own below `rows`, with a spool and a funnel beside it.
 #[derive(Drop)]
-pub(crate) struct Row {
+pub(crate) struct FeedCase {
     host: HostRuntime,
     name: &'static str,
 }
@@ -38,7 +38,7 @@ impl ReadFile for ConfFile {
     }
 }
 
-impl Row {
+impl FeedCase {
     /// A row of this name, with an empty backlog directory.
     pub fn new<R: AllocGlobal + Print>(
         rt: &R,
@@ -46,7 +46,7 @@ impl Row {
         name: &'static str,
     ) -> Result<Self> {
         println!(rt; "== {name}")?;
-        let row = Row { host, name };
+        let row = FeedCase { host, name };
         let path = row.path("backlog")?;
         fs::create_dir_all(&host, path.as_str())?;
         fs::create_dir_all(&host, "rows/articles")?;
@@ -116,7 +116,7 @@ pub(crate) struct RunOutput {
     pub err: Vec<u8>,
 }
 
-impl Row {
+impl FeedCase {
     /// Takes the funnel's lines for a peer that is not there, and prints its output.
     pub fn take<R: Threads + Wait + Print + Send + Sync + Drop + 'static>(
         &self,

@@ -1,5 +1,5 @@
 // An exchange over a link in memory, and what should come of it if the link ends early.
-use crate::rows::{BACK, LATER, Step};
+use crate::rows::{BACK, LATER, LinkStep};
 use article_store::Found;
 use bytes::Bytes;
 use conn_core::{Conn, CxnId, Options, Outcome};
@@ -20,7 +20,7 @@ pub(crate) const OPTIONS: Options = Options {
 };
 
 // More turns than any exchange takes.
-const ENOUGH: u64 = 1_000_000;
+const TURNS_MAX: u64 = 1_000_000;
 
 // How a link behaves: the most octets that it moves at a time, and how each direction ends.
 #[derive(Clone, Copy, Debug)]
@@ -31,7 +31,7 @@ pub(crate) struct Way {
 }
 
 #[derive(Drop)]
-pub(crate) struct Exchange {
+pub(crate) struct LinkExchange {
     alloc: Global,
     way: Way,
     conn: Conn,
@@ -45,9 +45,9 @@ pub(crate) struct Exchange {
     done: Vec<(Key, u16)>,
 }
 
-impl Exchange {
+impl LinkExchange {
     pub(crate) fn new(alloc: Global, way: Way) -> Result<Self, Fail> {
-        Ok(Exchange {
+        Ok(LinkExchange {
             alloc,
             way,
             conn: Conn::new(alloc, CxnId(7), OPTIONS)?,
@@ -61,7 +61,7 @@ impl Exchange {
     }
 
     // Takes the steps of a row, and drives the connection after each.
-    pub(crate) fn play(&mut self, row: &[Step]) -> Result<(), Fail> {
+    pub(crate) fn play(&mut self, row: &[LinkStep]) -> Result<(), Fail> {
         for step in row {
             self.take(*step)?;
             self.drive();
@@ -69,25 +69,25 @@ impl Exchange {
         Ok(())
     }
 
-    fn take(&mut self, step: Step) -> Result<(), Fail> {
+    fn take(&mut self, step: LinkStep) -> Result<(), Fail> {
         match step {
-            Step::Says(line) => self.say(line)?,
-            Step::Ends(number, code, line) => {
+            LinkStep::Says(line) => self.say(line)?,
+            LinkStep::Ends(number, code, line) => {
                 self.say(line)?;
                 if self.is_whole() {
                     self.done.push((line_key(number), code))?;
                 }
             }
-            Step::Offer(number, id) => self.offer(number, id)?,
-            Step::Text(number, text) => self.hand(number, text)?,
-            Step::Sends(octets) => self.sends.extend_from_slice(octets)?,
+            LinkStep::Offer(number, id) => self.offer(number, id)?,
+            LinkStep::Text(number, text) => self.hand(number, text)?,
+            LinkStep::Sends(octets) => self.sends.extend_from_slice(octets)?,
         }
         Ok(())
     }
 
     fn drive(&mut self) {
         let mut buffer = [0u8; 16];
-        self.driven = drive(&mut self.conn, &mut self.link, &mut buffer, ENOUGH);
+        self.driven = drive(&mut self.conn, &mut self.link, &mut buffer, TURNS_MAX);
     }
 
     fn say(&mut self, line: &[u8]) -> Result<(), Fail> {
@@ -122,7 +122,7 @@ impl Exchange {
     // Each debt that was taken comes out once: by its final reply if the whole of that came.
     pub(crate) fn assert_outcomes<A: Abort>(&mut self, rt: &A) -> Result<(), Fail> {
         let mut told = Vec::new(self.alloc);
-        for _ in 0..ENOUGH {
+        for _ in 0..TURNS_MAX {
             match self.conn.outcome() {
                 Some(outcome) => told.push(told_of(&outcome))?,
                 None => break,

@@ -1,6 +1,6 @@
 // Exchanges whole, and cut at each octet.
-use crate::exchange::{Exchange, OPTIONS, Way};
-use crate::rows::{ONE_BY_ONE, STREAMING, Step};
+use crate::exchange::{LinkExchange, OPTIONS, Way};
+use crate::rows::{LinkStep, ONE_BY_ONE, STREAMING};
 use conn_core::{Conn, CxnId, Reason};
 use event_loop::{Driven, End, MemLink, Moved, take_in};
 use reply_reader::ReplyFault;
@@ -18,11 +18,11 @@ const WHOLE: Way = Way {
 fn play<A: Abort>(
     rt: &A,
     alloc: Global,
-    row: &[Step],
+    row: &[LinkStep],
     way: Way,
     driven: Driven,
-) -> Result<Exchange, Fail> {
-    let mut exchange = Exchange::new(alloc, way)?;
+) -> Result<LinkExchange, Fail> {
+    let mut exchange = LinkExchange::new(alloc, way)?;
     exchange.play(row)?;
     assert_eq!(rt; exchange.driven(), driven, "{:?}", way);
     exchange.assert_taken(rt);
@@ -31,7 +31,7 @@ fn play<A: Abort>(
 }
 
 // A row whole, and with each direction closed, and failing, after each number of octets.
-fn play_cut<A: Abort>(rt: &A, alloc: Global, row: &[Step]) -> Result<(), Fail> {
+fn play_cut<A: Abort>(rt: &A, alloc: Global, row: &[LinkStep]) -> Result<(), Fail> {
     let whole = play(rt, alloc, row, WHOLE, Driven::Idle)?;
     for at in 0..=whole.said() {
         for gives in [End::Closes(at), End::Fails(at)] {

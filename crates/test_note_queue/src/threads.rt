@@ -17,7 +17,7 @@ use std::thread::Threads;
 const LINES: u64 = 5000;
 
 // How many lines are settled before the flusher ends.
-const SETTLED: u64 = 3000;
+const SETTLED_LINES: u64 = 3000;
 
 // How often each looks for the other at most, so that the test ends.
 const LOOKS_MAX: u32 = 1_000_000;
@@ -30,7 +30,7 @@ fn what_was_settled_is_on_the_tape(rt: HostRuntime) -> Result<(), Fail> {
     let (relay, told) = worked(&rt, relay, &token, &id)?;
     let joined = relay.join(&rt, alloc)?;
     let queued = joined.queued.len() as u64 + u64::from(joined.kept.is_some());
-    assert_eq!(rt; SETTLED <= told && told <= LINES, true);
+    assert_eq!(rt; SETTLED_LINES <= told && told <= LINES, true);
     assert_eq!(rt; joined.front.totals().taken, LINES);
     let taken = taken_on_disks(alloc, joined.tape)?;
     assert_eq!(rt;
@@ -134,7 +134,7 @@ fn heard_enough<R: Wait>(
             if !sender.settled(&flushed) {
                 return Err(Fail::from("a flush of this tape"));
             }
-            if flushed.count() >= SETTLED {
+            if flushed.count() >= SETTLED_LINES {
                 return Ok(flushed.count());
             }
         }
@@ -158,7 +158,7 @@ fn flushed<R: Wait>(
         side.pull(rt, queue)?;
         let flushed = side.flush()?;
         *last.lock(rt) = Some(flushed);
-        if flushed.count() >= SETTLED {
+        if flushed.count() >= SETTLED_LINES {
             break;
         }
         thread::yield_now();

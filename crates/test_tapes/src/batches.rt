@@ -3,7 +3,7 @@ use crate::answers::assert_answer;
 use crate::disks::disks_of;
 use crate::rotations::with_octet;
 use crate::samples::{Sample, is_sample, note_of};
-use crate::tape_steps::{ReopenedTape, Step, flush, opened, run, run_each};
+use crate::tape_steps::{ReopenedTape, TapeStep, flush, opened, run, run_each};
 use crate::tapes::{FILLS, assert_damaged, fused, image, prefix_of, stopped};
 use disk_model::{Disk, FuseDisk, MemDisk};
 use funnel::{MsgId, Token};
@@ -220,21 +220,21 @@ fn batches_are_written_and_read(rt: HostRuntime) -> Result<(), Fail> {
             &[],
             &[
                 (
-                    &[Step::OweEach(1, 3), Step::Flush(Ok(2))],
+                    &[TapeStep::OweEach(1, 3), TapeStep::Flush(Ok(2))],
                     Some((&BATCHED, &[])),
                 ),
-                (&[Step::Numbers(&[1, 2])], Some((&BATCHED, &[]))),
+                (&[TapeStep::Numbers(&[1, 2])], Some((&BATCHED, &[]))),
             ],
         ),
         (
             &[],
             &[(
                 &[
-                    Step::OweEach(1, 3),
-                    Step::Note(Sample::Final(1), Ok(())),
-                    Step::Debt(2, Ok(Some(2))),
-                    Step::Flush(Ok(3)),
-                    Step::Debt(2, Ok(Some(2))),
+                    TapeStep::OweEach(1, 3),
+                    TapeStep::Note(Sample::Final(1), Ok(())),
+                    TapeStep::Debt(2, Ok(Some(2))),
+                    TapeStep::Flush(Ok(3)),
+                    TapeStep::Debt(2, Ok(Some(2))),
                 ],
                 Some((&ANSWERED, &[])),
             )],
@@ -244,28 +244,31 @@ fn batches_are_written_and_read(rt: HostRuntime) -> Result<(), Fail> {
             &[
                 (
                     &[
-                        Step::Numbers(&[1, 2]),
-                        Step::Mark(2),
-                        Step::Debt(1, Ok(Some(1))),
-                        Step::Debt(2, Ok(Some(2))),
-                        Step::Note(Sample::Final(1), Ok(())),
-                        Step::Flush(Ok(1)),
-                        Step::Debt(2, Ok(Some(2))),
-                        Step::Rotate(Ok(1)),
-                        Step::Debt(2, Ok(Some(2))),
+                        TapeStep::Numbers(&[1, 2]),
+                        TapeStep::Mark(2),
+                        TapeStep::Debt(1, Ok(Some(1))),
+                        TapeStep::Debt(2, Ok(Some(2))),
+                        TapeStep::Note(Sample::Final(1), Ok(())),
+                        TapeStep::Flush(Ok(1)),
+                        TapeStep::Debt(2, Ok(Some(2))),
+                        TapeStep::Rotate(Ok(1)),
+                        TapeStep::Debt(2, Ok(Some(2))),
                     ],
                     None,
                 ),
-                (&[Step::Numbers(&[2]), Step::Debt(2, Ok(Some(2)))], None),
+                (
+                    &[TapeStep::Numbers(&[2]), TapeStep::Debt(2, Ok(Some(2)))],
+                    None,
+                ),
             ],
         ),
         (
             &ANSWERED,
             &[(
                 &[
-                    Step::Numbers(&[2]),
-                    Step::Debt(1, Ok(None)),
-                    Step::Debt(2, Ok(Some(2))),
+                    TapeStep::Numbers(&[2]),
+                    TapeStep::Debt(1, Ok(None)),
+                    TapeStep::Debt(2, Ok(Some(2))),
                 ],
                 Some((&ANSWERED, &[])),
             )],
@@ -274,12 +277,12 @@ fn batches_are_written_and_read(rt: HostRuntime) -> Result<(), Fail> {
             &IMPORTED,
             &[(
                 &[
-                    Step::Keys(&[(2, 4)]),
-                    Step::Mark(5),
-                    Step::Closed(1),
-                    Step::ImportMark(4),
-                    Step::DebtFrom((2, 4), Ok(Some((2, 4)))),
-                    Step::DebtFrom((1, 1), Ok(None)),
+                    TapeStep::Keys(&[(2, 4)]),
+                    TapeStep::Mark(5),
+                    TapeStep::Closed(1),
+                    TapeStep::ImportMark(4),
+                    TapeStep::DebtFrom((2, 4), Ok(Some((2, 4)))),
+                    TapeStep::DebtFrom((1, 1), Ok(None)),
                 ],
                 Some((&IMPORTED, &[])),
             )],
@@ -290,38 +293,44 @@ fn batches_are_written_and_read(rt: HostRuntime) -> Result<(), Fail> {
             &[
                 (
                     &[
-                        Step::Numbers(&[1, 2, 3]),
-                        Step::Note(Sample::Final(2), Ok(())),
-                        Step::Note(Sample::Owe(5), Ok(())),
-                        Step::Debt(5, Ok(Some(5))),
-                        Step::Flush(Ok(2)),
-                        Step::Debt(3, Ok(Some(3))),
-                        Step::Debt(5, Ok(Some(5))),
+                        TapeStep::Numbers(&[1, 2, 3]),
+                        TapeStep::Note(Sample::Final(2), Ok(())),
+                        TapeStep::Note(Sample::Owe(5), Ok(())),
+                        TapeStep::Debt(5, Ok(Some(5))),
+                        TapeStep::Flush(Ok(2)),
+                        TapeStep::Debt(3, Ok(Some(3))),
+                        TapeStep::Debt(5, Ok(Some(5))),
                     ],
                     Some((&PLAIN_NOTED, &[])),
                 ),
                 (
-                    &[Step::Numbers(&[1, 3, 5]), Step::Debt(5, Ok(Some(5)))],
+                    &[
+                        TapeStep::Numbers(&[1, 3, 5]),
+                        TapeStep::Debt(5, Ok(Some(5))),
+                    ],
                     Some((&PLAIN_NOTED, &[])),
                 ),
             ],
         ),
         // After a closed gate nothing is read.
-        (&TORN, &[(&[Step::Numbers(&[1]), Step::Mark(1)], None)]),
+        (
+            &TORN,
+            &[(&[TapeStep::Numbers(&[1]), TapeStep::Mark(1)], None)],
+        ),
         (
             &BASE_NOTED,
             &[(
                 &[
-                    Step::Numbers(&[8]),
-                    Step::Mark(9),
-                    Step::Totals(Totals {
+                    TapeStep::Numbers(&[8]),
+                    TapeStep::Mark(9),
+                    TapeStep::Totals(Totals {
                         taken: 3,
                         answered: 1,
                         dropped: 1,
                         owed: 1,
                         owed_bytes: 10,
                     }),
-                    Step::Debt(8, Ok(Some(8))),
+                    TapeStep::Debt(8, Ok(Some(8))),
                 ],
                 Some((&BASE_NOTED, &[])),
             )],
@@ -417,7 +426,7 @@ fn tape_with(alloc: Global, payload: &[u8], len: u32) -> Result<Vec<u8>, Fail> {
 // With a Drop it has 65,536 octets and is a batch; with a Final it has one more, and is not.
 #[test]
 fn the_longest_batch(rt: HostRuntime) -> Result<(), Fail> {
-    const ENDED: &[Step] = &[Step::Numbers(&[]), Step::Mark(7281)];
+    const ENDED: &[TapeStep] = &[TapeStep::Numbers(&[]), TapeStep::Mark(7281)];
     let alloc = rt.alloc();
     let longest = filled(alloc, Sample::Drop(2))?;
     assert_answer(&rt, 0, &longest.len(), &65536);
@@ -451,42 +460,42 @@ fn longer_payloads_are_damage(rt: HostRuntime) -> Result<(), Fail> {
 
 // Steps at a tape that is empty first, the last of which flushes; the same if the flush fails; how many calls of the
 // first disk the flush makes, and how many octets are on it then.
-type Flushed = (&'static [Step], &'static [Step], u64, u64);
+type FlushCase = (&'static [TapeStep], &'static [TapeStep], u64, u64);
 
 const DISK: Result<u64, TapeFault> = Err(TapeFault::Disk);
 
 // 3,449 debts of 19 octets fill a batch, and one more is a record by itself. As many notes as may be pending are ten
 // batches of notes of 9 octets, and twenty of debts.
-const FLUSHED: &[Flushed] = &[
+const FLUSHED: &[FlushCase] = &[
     (
-        &[Step::OweEach(1, 3450), Step::Flush(Ok(3449))],
-        &[Step::OweEach(1, 3450), Step::Flush(DISK)],
+        &[TapeStep::OweEach(1, 3450), TapeStep::Flush(Ok(3449))],
+        &[TapeStep::OweEach(1, 3450), TapeStep::Flush(DISK)],
         4,
         65542,
     ),
     (
-        &[Step::OweEach(1, 3451), Step::Flush(Ok(3450))],
-        &[Step::OweEach(1, 3451), Step::Flush(DISK)],
+        &[TapeStep::OweEach(1, 3451), TapeStep::Flush(Ok(3450))],
+        &[TapeStep::OweEach(1, 3451), TapeStep::Flush(DISK)],
         5,
         65566,
     ),
     (
         &[
-            Step::SeenEach(1, 65537),
-            Step::Room(0),
-            Step::Flush(Ok(65536)),
+            TapeStep::SeenEach(1, 65537),
+            TapeStep::Room(0),
+            TapeStep::Flush(Ok(65536)),
         ],
-        &[Step::SeenEach(1, 65537), Step::Flush(DISK)],
+        &[TapeStep::SeenEach(1, 65537), TapeStep::Flush(DISK)],
         13,
         589925,
     ),
     (
         &[
-            Step::OweEach(1, 65537),
-            Step::Room(0),
-            Step::Flush(Ok(65536)),
+            TapeStep::OweEach(1, 65537),
+            TapeStep::Room(0),
+            TapeStep::Flush(Ok(65536)),
         ],
-        &[Step::OweEach(1, 65537), Step::Flush(DISK)],
+        &[TapeStep::OweEach(1, 65537), TapeStep::Flush(DISK)],
         23,
         1245385,
     ),
@@ -540,12 +549,12 @@ fn long_note(alloc: Global, key: Key, shorter: usize) -> Result<Note, Fail> {
 }
 
 // A source, the number of debts of its first lines, and how many octets the last one is shorter than the others.
-type Long = (u32, u64, usize);
+type LongLines = (u32, u64, usize);
 
 fn note_long<D: Disk>(
     alloc: Global,
     tape: &mut Tape<D>,
-    (source, count, shorter): Long,
+    (source, count, shorter): LongLines,
 ) -> Result<(), Fail> {
     for number in 1..=count {
         let less = if number == count { shorter } else { 0 };
@@ -559,7 +568,7 @@ fn note_long<D: Disk>(
 // The result of a flush of long notes on disks that pass this many calls, and how many octets are on the first then.
 fn flushed_long(
     alloc: Global,
-    long: Long,
+    long: LongLines,
     calls: u64,
 ) -> Result<(Result<u64, TapeFault>, u64), Fail> {
     match opened(alloc, empty_disks(alloc, calls)) {
@@ -578,7 +587,7 @@ fn flushed_long(
 #[test]
 fn the_longest_notes_are_cut(rt: HostRuntime) -> Result<(), Fail> {
     // The notes, how many calls their flush makes, and how many octets are on the disk then.
-    const ROWS: &[(Long, u64, u64)] = &[
+    const ROWS: &[(LongLines, u64, u64)] = &[
         ((0, 126, 0), 4, 65027),
         ((0, 127, 1), 4, 65542),
         ((0, 127, 0), 5, 65548),
@@ -612,25 +621,30 @@ fn assert_ends<A: Abort>(
 
 // Steps, of which the last is a flush that a stop interrupts; how many calls it makes of the first disk, and how many
 // earlier flushes make; and how many debts are left.
-type Stopped = (&'static [Step], u64, u64, &'static [u64]);
+type Stopped = (&'static [TapeStep], u64, u64, &'static [u64]);
 
 #[test]
 fn a_stop_keeps_whole_batches(rt: HostRuntime) -> Result<(), Fail> {
     const ROWS: &[Stopped] = &[
-        (&[Step::OweEach(1, 3), Step::Flush(DISK)], 4, 0, &[0, 2]),
+        (
+            &[TapeStep::OweEach(1, 3), TapeStep::Flush(DISK)],
+            4,
+            0,
+            &[0, 2],
+        ),
         (
             &[
-                Step::OweEach(1, 3),
-                Step::Flush(Ok(2)),
-                Step::OweEach(3, 7),
-                Step::Flush(DISK),
+                TapeStep::OweEach(1, 3),
+                TapeStep::Flush(Ok(2)),
+                TapeStep::OweEach(3, 7),
+                TapeStep::Flush(DISK),
             ],
             4,
             4,
             &[2, 6],
         ),
         (
-            &[Step::OweEach(1, 3451), Step::Flush(DISK)],
+            &[TapeStep::OweEach(1, 3451), TapeStep::Flush(DISK)],
             5,
             0,
             &[0, 3449, 3450],
@@ -651,33 +665,33 @@ fn a_stop_keeps_whole_batches(rt: HostRuntime) -> Result<(), Fail> {
 // rotation.
 #[test]
 fn debts_are_told_from_batches(rt: HostRuntime) -> Result<(), Fail> {
-    const TOLD: &[Step] = &[
-        Step::OweEach(1, 4001),
-        Step::Debt(1, Ok(Some(1))),
-        Step::Debt(3449, Ok(Some(3449))),
-        Step::Debt(3450, Ok(Some(3450))),
-        Step::Debt(4000, Ok(Some(4000))),
-        Step::Flush(Ok(4000)),
-        Step::Debt(1, Ok(Some(1))),
-        Step::Debt(2, Ok(Some(2))),
-        Step::Debt(3449, Ok(Some(3449))),
-        Step::Debt(3450, Ok(Some(3450))),
-        Step::Debt(4000, Ok(Some(4000))),
-        Step::Note(Sample::Owe(4001), Ok(())),
-        Step::Note(Sample::OweFrom(1, 1), Ok(())),
-        Step::Debt(4001, Ok(Some(4001))),
-        Step::DebtFrom((1, 1), Ok(Some((1, 1)))),
-        Step::Rotate(Ok(1)),
-        Step::Debt(1, Ok(Some(1))),
-        Step::Debt(3450, Ok(Some(3450))),
-        Step::Debt(4001, Ok(Some(4001))),
-        Step::DebtFrom((1, 1), Ok(Some((1, 1)))),
+    const TOLD: &[TapeStep] = &[
+        TapeStep::OweEach(1, 4001),
+        TapeStep::Debt(1, Ok(Some(1))),
+        TapeStep::Debt(3449, Ok(Some(3449))),
+        TapeStep::Debt(3450, Ok(Some(3450))),
+        TapeStep::Debt(4000, Ok(Some(4000))),
+        TapeStep::Flush(Ok(4000)),
+        TapeStep::Debt(1, Ok(Some(1))),
+        TapeStep::Debt(2, Ok(Some(2))),
+        TapeStep::Debt(3449, Ok(Some(3449))),
+        TapeStep::Debt(3450, Ok(Some(3450))),
+        TapeStep::Debt(4000, Ok(Some(4000))),
+        TapeStep::Note(Sample::Owe(4001), Ok(())),
+        TapeStep::Note(Sample::OweFrom(1, 1), Ok(())),
+        TapeStep::Debt(4001, Ok(Some(4001))),
+        TapeStep::DebtFrom((1, 1), Ok(Some((1, 1)))),
+        TapeStep::Rotate(Ok(1)),
+        TapeStep::Debt(1, Ok(Some(1))),
+        TapeStep::Debt(3450, Ok(Some(3450))),
+        TapeStep::Debt(4001, Ok(Some(4001))),
+        TapeStep::DebtFrom((1, 1), Ok(Some((1, 1)))),
     ];
-    const AGAIN: &[Step] = &[
-        Step::Debt(1, Ok(Some(1))),
-        Step::Debt(3449, Ok(Some(3449))),
-        Step::Debt(4001, Ok(Some(4001))),
-        Step::Debt(4002, Ok(None)),
+    const AGAIN: &[TapeStep] = &[
+        TapeStep::Debt(1, Ok(Some(1))),
+        TapeStep::Debt(3449, Ok(Some(3449))),
+        TapeStep::Debt(4001, Ok(Some(4001))),
+        TapeStep::Debt(4002, Ok(None)),
     ];
     let disks = disks_of(rt.alloc(), (&[], &[]))?;
     run_each(&rt, rt.alloc(), disks, &[(TOLD, None), (AGAIN, None)])
@@ -686,14 +700,14 @@ fn debts_are_told_from_batches(rt: HostRuntime) -> Result<(), Fail> {
 // Drops join the pending batch, all or none.
 #[test]
 fn drops_join_a_batch(rt: HostRuntime) -> Result<(), Fail> {
-    const STEPS: &[Step] = &[
-        Step::OweEach(1, 4),
-        Step::DropAll(&[1, 4], Err(TapeFault::Note(LedgerFault::NotOwed))),
-        Step::DropAll(&[3, 1], Ok(())),
-        Step::Numbers(&[2]),
-        Step::Debt(2, Ok(Some(2))),
-        Step::Flush(Ok(5)),
-        Step::Debt(2, Ok(Some(2))),
+    const STEPS: &[TapeStep] = &[
+        TapeStep::OweEach(1, 4),
+        TapeStep::DropAll(&[1, 4], Err(TapeFault::Note(LedgerFault::NotOwed))),
+        TapeStep::DropAll(&[3, 1], Ok(())),
+        TapeStep::Numbers(&[2]),
+        TapeStep::Debt(2, Ok(Some(2))),
+        TapeStep::Flush(Ok(5)),
+        TapeStep::Debt(2, Ok(Some(2))),
     ];
     let disks = disks_of(rt.alloc(), (&[], &[]))?;
     run_each(&rt, rt.alloc(), disks, &[(STEPS, Some((&DROPPED, &[])))])

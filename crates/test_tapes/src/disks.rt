@@ -9,31 +9,31 @@ use std::test::Fail;
 
 // A call of a disk.
 #[derive(Clone, Copy)]
-enum Call<'a> {
+enum DiskCall<'a> {
     Write(u64, &'a [u8]),
     Cut(u64),
     Sync,
 }
 
-fn make<D: Disk>(disk: &mut D, call: Call<'_>) -> Result<(), DiskFault> {
+fn make<D: Disk>(disk: &mut D, call: DiskCall<'_>) -> Result<(), DiskFault> {
     match call {
-        Call::Write(at, octets) => {
+        DiskCall::Write(at, octets) => {
             if disk.len() < at {
                 return Err(DiskFault);
             }
             disk.write_at(at, octets)
         }
-        Call::Cut(len) => {
+        DiskCall::Cut(len) => {
             if disk.len() < len {
                 return Err(DiskFault);
             }
             disk.cut(len)
         }
-        Call::Sync => disk.sync(),
+        DiskCall::Sync => disk.sync(),
     }
 }
 
-fn disk_after(alloc: Global, calls: &[Call<'_>]) -> Result<MemDisk, Fail> {
+fn disk_after(alloc: Global, calls: &[DiskCall<'_>]) -> Result<MemDisk, Fail> {
     let mut disk = MemDisk::new(alloc);
     for call in calls {
         make(&mut disk, *call)?;
@@ -43,7 +43,7 @@ fn disk_after(alloc: Global, calls: &[Call<'_>]) -> Result<MemDisk, Fail> {
 
 // A disk of these octets, all of which survive a stop.
 pub(crate) fn disk_of(alloc: Global, octets: &[u8]) -> Result<MemDisk, Fail> {
-    disk_after(alloc, &[Call::Write(0, octets), Call::Sync])
+    disk_after(alloc, &[DiskCall::Write(0, octets), DiskCall::Sync])
 }
 
 // The disks of a tape of one segment, which is that of the first.
@@ -95,14 +95,17 @@ pub(crate) fn assert_faults<A: Abort, D: Disk>(rt: &A, at: usize, disk: &D, want
 
 #[test]
 fn a_disk_keeps_what_is_written(rt: HostRuntime) -> Result<(), Fail> {
-    const THREE: Call<'static> = Call::Write(0, &[7, 8, 9]);
-    const TWO: Call<'static> = Call::Write(2, &[5, 6]);
-    const FIRST: Call<'static> = Call::Write(0, &[1]);
-    const ROWS: &[(&[Call<'static>], &[u8])] = &[
+    const THREE: DiskCall<'static> = DiskCall::Write(0, &[7, 8, 9]);
+    const TWO: DiskCall<'static> = DiskCall::Write(2, &[5, 6]);
+    const FIRST: DiskCall<'static> = DiskCall::Write(0, &[1]);
+    const ROWS: &[(&[DiskCall<'static>], &[u8])] = &[
         (&[], &[]),
-        (&[THREE, TWO, Call::Sync], &[7, 8, 5, 6]),
-        (&[THREE, TWO, Call::Sync, Call::Cut(1)], &[7]),
-        (&[THREE, TWO, Call::Cut(2), Call::Sync, FIRST], &[1, 8]),
+        (&[THREE, TWO, DiskCall::Sync], &[7, 8, 5, 6]),
+        (&[THREE, TWO, DiskCall::Sync, DiskCall::Cut(1)], &[7]),
+        (
+            &[THREE, TWO, DiskCall::Cut(2), DiskCall::Sync, FIRST],
+            &[1, 8],
+        ),
     ];
     for (at, (calls, want)) in ROWS.iter().enumerate() {
         let mut disk = disk_after(rt.alloc(), calls)?;
@@ -134,10 +137,10 @@ fn assert_images<A: Abort>(
 
 #[test]
 fn a_choice_names_an_image(rt: HostRuntime) -> Result<(), Fail> {
-    const THREE: Call<'static> = Call::Write(0, &[7, 8, 9]);
-    const FOURTH: Call<'static> = Call::Write(3, &[5]);
-    const FIRST: Call<'static> = Call::Write(0, &[1]);
-    const ROWS: &[(&[Call<'static>], &[Image])] = &[
+    const THREE: DiskCall<'static> = DiskCall::Write(0, &[7, 8, 9]);
+    const FOURTH: DiskCall<'static> = DiskCall::Write(3, &[5]);
+    const FIRST: DiskCall<'static> = DiskCall::Write(0, &[1]);
+    const ROWS: &[(&[DiskCall<'static>], &[Image])] = &[
         (
             &[THREE],
             &[(1, 0, &[7, 8, 9]), (0, 0, &[]), (0, 165, &[165, 165, 165])],
@@ -147,11 +150,11 @@ fn a_choice_names_an_image(rt: HostRuntime) -> Result<(), Fail> {
             &[(3, 0, &[7, 8, 9, 5]), (2, 0, &[0, 0, 0, 5])],
         ),
         (
-            &[THREE, FOURTH, Call::Cut(2)],
+            &[THREE, FOURTH, DiskCall::Cut(2)],
             &[(3, 0, &[7, 8, 9, 5]), (7, 0, &[7, 8])],
         ),
         (
-            &[THREE, FOURTH, Call::Cut(2), Call::Sync, FIRST],
+            &[THREE, FOURTH, DiskCall::Cut(2), DiskCall::Sync, FIRST],
             &[(0, 0, &[7, 8]), (0, 165, &[165, 8]), (1, 0, &[1, 8])],
         ),
     ];
@@ -165,7 +168,7 @@ fn a_choice_names_an_image(rt: HostRuntime) -> Result<(), Fail> {
 fn written_singly(alloc: Global) -> Result<MemDisk, Fail> {
     let mut disk = MemDisk::new(alloc);
     for at in 0..65 {
-        make(&mut disk, Call::Write(at, &[1]))?;
+        make(&mut disk, DiskCall::Write(at, &[1]))?;
     }
     Ok(disk)
 }
@@ -191,7 +194,7 @@ fn bit_63_tells_of_each_operation_from_63_on(rt: HostRuntime) -> Result<(), Fail
 }
 
 // A call, the wanted answer, and how many faults there are then.
-type Answered = (Call<'static>, Result<(), DiskFault>, u64);
+type Answered = (DiskCall<'static>, Result<(), DiskFault>, u64);
 
 // Each call answers as is wanted, and leaves this many faults.
 fn assert_calls<A: Abort, D: Disk>(rt: &A, disk: &mut D, calls: &[Answered]) {
@@ -204,11 +207,11 @@ fn assert_calls<A: Abort, D: Disk>(rt: &A, disk: &mut D, calls: &[Answered]) {
 #[test]
 fn a_fuse_passes_its_calls_and_no_more(rt: HostRuntime) -> Result<(), Fail> {
     const CALLS: &[Answered] = &[
-        (Call::Write(0, &[7, 8]), Ok(()), 0),
-        (Call::Sync, Ok(()), 0),
-        (Call::Write(2, &[9]), Err(DiskFault), 1),
-        (Call::Cut(0), Err(DiskFault), 2),
-        (Call::Sync, Err(DiskFault), 3),
+        (DiskCall::Write(0, &[7, 8]), Ok(()), 0),
+        (DiskCall::Sync, Ok(()), 0),
+        (DiskCall::Write(2, &[9]), Err(DiskFault), 1),
+        (DiskCall::Cut(0), Err(DiskFault), 2),
+        (DiskCall::Sync, Err(DiskFault), 3),
     ];
     let mut disk = FuseDisk::new(MemDisk::new(rt.alloc()), 2);
     assert_calls(&rt, &mut disk, CALLS);
@@ -223,11 +226,11 @@ const FAILED: Result<(), DiskFault> = Err(DiskFault);
 #[test]
 fn a_flaky_disk_fails_one_call(rt: HostRuntime) -> Result<(), Fail> {
     const CALLS: &[Answered] = &[
-        (Call::Write(0, &[7, 8]), Ok(()), 0),
-        (Call::Cut(1), FAILED, 1),
-        (Call::Sync, Ok(()), 1),
-        (Call::Write(2, &[9]), Ok(()), 1),
-        (Call::Cut(1), Ok(()), 1),
+        (DiskCall::Write(0, &[7, 8]), Ok(()), 0),
+        (DiskCall::Cut(1), FAILED, 1),
+        (DiskCall::Sync, Ok(()), 1),
+        (DiskCall::Write(2, &[9]), Ok(()), 1),
+        (DiskCall::Cut(1), Ok(()), 1),
     ];
     let mut disk = FlakyDisk::new(MemDisk::new(rt.alloc()), 1);
     assert_calls(&rt, &mut disk, CALLS);
@@ -254,7 +257,7 @@ fn assert_failing<A: Abort>(rt: &A, alloc: Global, at: usize, row: Failing) -> R
 
 #[test]
 fn the_disk_of_a_file_knows_what_failed(rt: HostRuntime) -> Result<(), Fail> {
-    const THREE: Call<'static> = Call::Write(0, &[1, 2, 3]);
+    const THREE: DiskCall<'static> = DiskCall::Write(0, &[1, 2, 3]);
     const ROWS: &[Failing] = &[
         // A write that failed kept nothing, or a part: the length is asked again.
         (
@@ -262,8 +265,8 @@ fn the_disk_of_a_file_knows_what_failed(rt: HostRuntime) -> Result<(), Fail> {
             0,
             &[
                 (THREE, Ok(()), 0),
-                (Call::Write(3, &[4, 5]), FAILED, 1),
-                (Call::Write(3, &[6]), Ok(()), 1),
+                (DiskCall::Write(3, &[4, 5]), FAILED, 1),
+                (DiskCall::Write(3, &[6]), Ok(()), 1),
             ],
             &[1, 2, 3, 6],
         ),
@@ -272,8 +275,8 @@ fn the_disk_of_a_file_knows_what_failed(rt: HostRuntime) -> Result<(), Fail> {
             1,
             &[
                 (THREE, Ok(()), 0),
-                (Call::Write(3, &[4, 5]), FAILED, 1),
-                (Call::Write(4, &[6]), Ok(()), 1),
+                (DiskCall::Write(3, &[4, 5]), FAILED, 1),
+                (DiskCall::Write(4, &[6]), Ok(()), 1),
             ],
             &[1, 2, 3, 4, 6],
         ),
@@ -281,14 +284,14 @@ fn the_disk_of_a_file_knows_what_failed(rt: HostRuntime) -> Result<(), Fail> {
         (
             1,
             0,
-            &[(Call::Write(0, &[1, 2, 3, 4, 5, 6, 7, 8]), FAILED, 1)],
+            &[(DiskCall::Write(0, &[1, 2, 3, 4, 5, 6, 7, 8]), FAILED, 1)],
             &[1, 2, 3, 4, 5, 6, 7],
         ),
         // A cut that failed did not happen, or did.
         (
             1,
             0,
-            &[(THREE, Ok(()), 0), (Call::Cut(1), FAILED, 1)],
+            &[(THREE, Ok(()), 0), (DiskCall::Cut(1), FAILED, 1)],
             &[1, 2, 3],
         ),
         (
@@ -296,8 +299,8 @@ fn the_disk_of_a_file_knows_what_failed(rt: HostRuntime) -> Result<(), Fail> {
             1,
             &[
                 (THREE, Ok(()), 0),
-                (Call::Cut(1), FAILED, 1),
-                (Call::Write(1, &[9]), Ok(()), 1),
+                (DiskCall::Cut(1), FAILED, 1),
+                (DiskCall::Write(1, &[9]), Ok(()), 1),
             ],
             &[1, 9],
         ),
@@ -307,10 +310,10 @@ fn the_disk_of_a_file_knows_what_failed(rt: HostRuntime) -> Result<(), Fail> {
             0,
             &[
                 (THREE, Ok(()), 0),
-                (Call::Sync, FAILED, 1),
-                (Call::Sync, FAILED, 2),
-                (Call::Write(3, &[4]), Ok(()), 2),
-                (Call::Sync, FAILED, 3),
+                (DiskCall::Sync, FAILED, 1),
+                (DiskCall::Sync, FAILED, 2),
+                (DiskCall::Write(3, &[4]), Ok(()), 2),
+                (DiskCall::Sync, FAILED, 3),
             ],
             &[1, 2, 3, 4],
         ),
@@ -325,11 +328,11 @@ fn the_disk_of_a_file_knows_what_failed(rt: HostRuntime) -> Result<(), Fail> {
 #[test]
 fn a_disk_is_a_file_and_a_file_is_a_disk(rt: HostRuntime) -> Result<(), Fail> {
     const CALLS: &[Answered] = &[
-        (Call::Write(0, &[7, 8, 9]), Ok(()), 0),
-        (Call::Write(2, &[5, 6]), FAILED, 1),
-        (Call::Write(2, &[5, 6]), Ok(()), 1),
-        (Call::Cut(3), Ok(()), 1),
-        (Call::Sync, Ok(()), 1),
+        (DiskCall::Write(0, &[7, 8, 9]), Ok(()), 0),
+        (DiskCall::Write(2, &[5, 6]), FAILED, 1),
+        (DiskCall::Write(2, &[5, 6]), Ok(()), 1),
+        (DiskCall::Cut(3), Ok(()), 1),
+        (DiskCall::Sync, Ok(()), 1),
     ];
     let within = FlakyDisk::new(MemDisk::new(rt.alloc()), 1);
     let mut disk = FileDisk::new(DiskFile(within));

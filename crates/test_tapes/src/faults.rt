@@ -5,7 +5,7 @@ use crate::planned_file::{Plan, PlannedFile};
 use crate::rotations::ROTATED;
 use crate::samples::Sample;
 use crate::tape_steps::{flush, note, opened, rotate};
-use crate::tapes::{Calls, Counts, OWED, TORN, assert_prefixes, flaky, prefix_of};
+use crate::tapes::{CallsLeft, DebtRange, OWED, TORN, assert_prefixes, flaky, prefix_of};
 use disk_model::{Disk, FileDisk};
 use recovery::{Tape, TapeFault};
 use std::alloc::Global;
@@ -69,7 +69,7 @@ fn work<A: Abort, D: Disk>(
     alloc: Global,
     tape: &mut Tape<D>,
     generation: u64,
-) -> Result<Counts, Fail> {
+) -> Result<DebtRange, Fail> {
     let acknowledged = flush_more(rt, alloc, tape, 2, tape.mark())?;
     if tape.is_broken() {
         return Ok((acknowledged, tape.mark()));
@@ -118,7 +118,7 @@ fn meets_fault<A: Abort>(
     rt: &A,
     alloc: Global,
     (first, second, generation): Rotated<'_>,
-    calls: Calls,
+    calls: CallsLeft,
 ) -> Result<bool, Fail> {
     let disks = flaky(disks_of(alloc, (first, second))?, calls);
     let mut tape = match opened_or_back(rt, alloc, disks) {
@@ -133,7 +133,7 @@ fn meets_fault<A: Abort>(
 }
 
 // The call that fails, of the first disk or of the second, comes after this many.
-fn calls_before(second: bool, calls: u64) -> Calls {
+fn calls_before(second: bool, calls: u64) -> CallsLeft {
     if second {
         (u64::MAX, calls)
     } else {
@@ -156,7 +156,7 @@ fn calls_of<A: Abort>(rt: &A, alloc: Global, tape: Rotated<'_>, second: bool) ->
 // after two reads of what comes first there. A flush makes four calls, for two notes or for one, on the disk whose
 // segment is live. A rotation reads from there all debts whose notes are on it, by one call since they are few, and
 // makes eight calls on the other disk, where the next flush of one note goes.
-const TAPES: [(Rotated<'static>, Calls); 4] = [
+const TAPES: [(Rotated<'static>, CallsLeft); 4] = [
     ((&[], &[], 1), (14, 13)),
     ((&OWED, &[], 1), (17, 13)),
     ((&TORN, &[], 1), (17, 13)),
@@ -207,7 +207,7 @@ fn assert_prefix<A: Abort>(
     rt: &A,
     alloc: Global,
     octets: (&[u8], &[u8]),
-    (least, most): Counts,
+    (least, most): DebtRange,
 ) -> Result<(), Fail> {
     let mark = prefix_of(alloc, disks_of(alloc, octets)?)??;
     assert_answer(rt, 0, &(least <= mark && mark <= most), &true);

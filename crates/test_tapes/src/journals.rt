@@ -29,7 +29,7 @@ const TWICE: [u8; 49] = [
 
 // What is done to a journal, or asked of it, and the answer that is wanted.
 #[derive(Clone, Copy)]
-enum Step {
+enum JournalStep {
     // The payload is added this many times at once.
     Append(u64, Result<(), AppendFault>),
     // The payload at this offset is read.
@@ -111,18 +111,28 @@ fn take<A: Abort, D: Disk>(
     alloc: Global,
     journal: &mut Journal<D>,
     at: usize,
-    step: Step,
+    step: JournalStep,
 ) -> Result<(), Fail> {
     match step {
-        Step::Append(count, want) => assert_answer(rt, at, &append(alloc, journal, count)?, &want),
-        Step::ReadBack(offset, want) => assert_answer(rt, at, &read_back(journal, offset)?, &want),
-        Step::ReadPart(offset, from, most, want) => {
+        JournalStep::Append(count, want) => assert_answer(
+            rt,
+            at,
+            &append(alloc, journal, count)?,
+            &want,
+        ),
+        JournalStep::ReadBack(offset, want) => assert_answer(
+            rt,
+            at,
+            &read_back(journal, offset)?,
+            &want,
+        ),
+        JournalStep::ReadPart(offset, from, most, want) => {
             assert_part(rt, at, journal, (offset, from, most), want)?
         }
-        Step::ReadAhead => journal.read_ahead()?,
-        Step::ReadSingly => journal.read_singly(),
-        Step::IsBroken(want) => assert_answer(rt, at, &journal.is_broken(), &want),
-        Step::Bytes(want) => assert_answer(rt, at, &journal.bytes(), &want),
+        JournalStep::ReadAhead => journal.read_ahead()?,
+        JournalStep::ReadSingly => journal.read_singly(),
+        JournalStep::IsBroken(want) => assert_answer(rt, at, &journal.is_broken(), &want),
+        JournalStep::Bytes(want) => assert_answer(rt, at, &journal.bytes(), &want),
     }
     Ok(())
 }
@@ -132,7 +142,7 @@ fn run<A: Abort, D: Disk + Drop>(
     rt: &A,
     alloc: Global,
     disk: D,
-    steps: &[Step],
+    steps: &[JournalStep],
 ) -> Result<D, Fail> {
     let mut journal = match opened(alloc, disk) {
         Ok((_, journal)) => journal,
@@ -210,29 +220,32 @@ fn damage_is_told_with_its_place(rt: HostRuntime) -> Result<(), Fail> {
 fn steps_are_taken_at_a_journal(rt: HostRuntime) -> Result<(), Fail> {
     // A segment, after how many calls its disk fails, the steps, and the segment that they leave, if that is
     // compared.
-    const SCRIPTS: &[(&[u8], u64, &[Step], Option<&[u8]>)] = &[
+    const SCRIPTS: &[(&[u8], u64, &[JournalStep], Option<&[u8]>)] = &[
         (
             &SEGMENT,
             u64::MAX,
             &[
-                Step::ReadBack(0, Ok(())),
-                Step::ReadBack(1, Err(ReadFault::Disk)),
-                Step::ReadBack(24, Err(ReadFault::Disk)),
-                Step::ReadBack(25, Err(ReadFault::Disk)),
-                Step::ReadBack(0, Ok(())),
+                JournalStep::ReadBack(0, Ok(())),
+                JournalStep::ReadBack(1, Err(ReadFault::Disk)),
+                JournalStep::ReadBack(24, Err(ReadFault::Disk)),
+                JournalStep::ReadBack(25, Err(ReadFault::Disk)),
+                JournalStep::ReadBack(0, Ok(())),
             ],
             Some(&SEGMENT),
         ),
         (
             &[],
             u64::MAX,
-            &[Step::Append(1, Ok(())), Step::Bytes(25)],
+            &[JournalStep::Append(1, Ok(())), JournalStep::Bytes(25)],
             Some(&SEGMENT),
         ),
         (
             &[],
             u64::MAX,
-            &[Step::Append(2, Ok(())), Step::ReadBack(24, Ok(()))],
+            &[
+                JournalStep::Append(2, Ok(())),
+                JournalStep::ReadBack(24, Ok(())),
+            ],
             Some(&TWICE),
         ),
         // A part of a payload is read: fewer octets if the payload ends sooner.
@@ -240,20 +253,20 @@ fn steps_are_taken_at_a_journal(rt: HostRuntime) -> Result<(), Fail> {
             &SEGMENT,
             u64::MAX,
             &[
-                Step::ReadPart(0, 0, 19, Ok(&PAYLOAD)),
-                Step::ReadPart(0, 9, 4, Ok(&[3, 0x61, 0x2f, 0x31])),
-                Step::ReadPart(0, 17, 9, Ok(&[0x79, 0x3e])),
-                Step::ReadPart(0, 19, 1, Ok(&[])),
-                Step::ReadPart(0, 4294967295, 4294967295, Ok(&[])),
-                Step::ReadPart(0, 3, 0, Ok(&[])),
-                Step::ReadPart(24, 0, 1, Err(ReadFault::Disk)),
-                Step::ReadPart(1, 0, 1, Err(ReadFault::Disk)),
-                Step::ReadAhead,
-                Step::ReadPart(0, 9, 4, Ok(&[3, 0x61, 0x2f, 0x31])),
-                Step::ReadPart(24, 0, 1, Err(ReadFault::Disk)),
-                Step::Append(1, Ok(())),
-                Step::ReadPart(24, 8, 2, Ok(&[1, 3])),
-                Step::ReadPart(0, 8, 2, Ok(&[1, 3])),
+                JournalStep::ReadPart(0, 0, 19, Ok(&PAYLOAD)),
+                JournalStep::ReadPart(0, 9, 4, Ok(&[3, 0x61, 0x2f, 0x31])),
+                JournalStep::ReadPart(0, 17, 9, Ok(&[0x79, 0x3e])),
+                JournalStep::ReadPart(0, 19, 1, Ok(&[])),
+                JournalStep::ReadPart(0, 4294967295, 4294967295, Ok(&[])),
+                JournalStep::ReadPart(0, 3, 0, Ok(&[])),
+                JournalStep::ReadPart(24, 0, 1, Err(ReadFault::Disk)),
+                JournalStep::ReadPart(1, 0, 1, Err(ReadFault::Disk)),
+                JournalStep::ReadAhead,
+                JournalStep::ReadPart(0, 9, 4, Ok(&[3, 0x61, 0x2f, 0x31])),
+                JournalStep::ReadPart(24, 0, 1, Err(ReadFault::Disk)),
+                JournalStep::Append(1, Ok(())),
+                JournalStep::ReadPart(24, 8, 2, Ok(&[1, 3])),
+                JournalStep::ReadPart(0, 8, 2, Ok(&[1, 3])),
             ],
             Some(&TWICE),
         ),
@@ -262,15 +275,15 @@ fn steps_are_taken_at_a_journal(rt: HostRuntime) -> Result<(), Fail> {
             &SEGMENT,
             u64::MAX,
             &[
-                Step::ReadAhead,
-                Step::ReadBack(0, Ok(())),
-                Step::ReadBack(24, Err(ReadFault::Disk)),
-                Step::Append(1, Ok(())),
-                Step::ReadBack(24, Ok(())),
-                Step::ReadBack(1, Err(ReadFault::Disk)),
-                Step::ReadSingly,
-                Step::ReadBack(0, Ok(())),
-                Step::ReadBack(24, Ok(())),
+                JournalStep::ReadAhead,
+                JournalStep::ReadBack(0, Ok(())),
+                JournalStep::ReadBack(24, Err(ReadFault::Disk)),
+                JournalStep::Append(1, Ok(())),
+                JournalStep::ReadBack(24, Ok(())),
+                JournalStep::ReadBack(1, Err(ReadFault::Disk)),
+                JournalStep::ReadSingly,
+                JournalStep::ReadBack(0, Ok(())),
+                JournalStep::ReadBack(24, Ok(())),
             ],
             Some(&TWICE),
         ),
@@ -280,12 +293,12 @@ fn steps_are_taken_at_a_journal(rt: HostRuntime) -> Result<(), Fail> {
             &SEGMENT,
             7,
             &[
-                Step::ReadAhead,
-                Step::ReadBack(0, Ok(())),
-                Step::ReadBack(0, Ok(())),
-                Step::ReadPart(0, 9, 4, Ok(&[3, 0x61, 0x2f, 0x31])),
-                Step::ReadSingly,
-                Step::ReadBack(0, Err(ReadFault::Disk)),
+                JournalStep::ReadAhead,
+                JournalStep::ReadBack(0, Ok(())),
+                JournalStep::ReadBack(0, Ok(())),
+                JournalStep::ReadPart(0, 9, 4, Ok(&[3, 0x61, 0x2f, 0x31])),
+                JournalStep::ReadSingly,
+                JournalStep::ReadBack(0, Err(ReadFault::Disk)),
             ],
             None,
         ),
@@ -294,18 +307,23 @@ fn steps_are_taken_at_a_journal(rt: HostRuntime) -> Result<(), Fail> {
             &[],
             6,
             &[
-                Step::IsBroken(false),
-                Step::Append(1, Err(AppendFault::Disk)),
-                Step::IsBroken(true),
-                Step::Append(1, Err(AppendFault::Broken)),
-                Step::Append(0, Err(AppendFault::Broken)),
-                Step::ReadBack(0, Err(ReadFault::Broken)),
-                Step::ReadPart(0, 0, 1, Err(ReadFault::Broken)),
+                JournalStep::IsBroken(false),
+                JournalStep::Append(1, Err(AppendFault::Disk)),
+                JournalStep::IsBroken(true),
+                JournalStep::Append(1, Err(AppendFault::Broken)),
+                JournalStep::Append(0, Err(AppendFault::Broken)),
+                JournalStep::ReadBack(0, Err(ReadFault::Broken)),
+                JournalStep::ReadPart(0, 0, 1, Err(ReadFault::Broken)),
             ],
             None,
         ),
         // An empty list makes no call.
-        (&[], 5, &[Step::Append(0, Ok(())), Step::Bytes(1)], None),
+        (
+            &[],
+            5,
+            &[JournalStep::Append(0, Ok(())), JournalStep::Bytes(1)],
+            None,
+        ),
     ];
     let alloc = rt.alloc();
     for (at, (segment, calls, steps, left)) in SCRIPTS.iter().enumerate() {

@@ -1,6 +1,6 @@
 // Ledgers at which steps are taken.
 use crate::answers::assert_answer;
-use crate::samples::{Line, Sample, keys_of, line, lines, note_of};
+use crate::samples::{Sample, SourceLine, keys_of, line, lines, note_of};
 use ledger_core::{Base, Ledger, LedgerFault, ReplayFault, Totals, encode, encode_base};
 use std::alloc::Global;
 use std::process::Abort;
@@ -8,7 +8,7 @@ use std::test::Fail;
 
 // What is done to a ledger, or asked of it, and the wanted answer.
 #[derive(Clone, Copy)]
-enum Step {
+enum LedgerStep {
     Apply(Sample, Result<(), LedgerFault>),
     Check(Sample, Result<(), LedgerFault>),
     Owes(u64, bool),
@@ -16,7 +16,7 @@ enum Step {
     Spot(u64, Option<(u64, u8, u8)>),
     // What is owed is these lines of the funnel.
     Numbers(&'static [u64]),
-    Keys(&'static [Line]),
+    Keys(&'static [SourceLine]),
     Totals(Totals),
     Mark(u64),
     Closed(u32),
@@ -58,33 +58,43 @@ fn take<A: Abort>(
     alloc: Global,
     ledger: &mut Ledger,
     at: usize,
-    step: Step,
+    step: LedgerStep,
 ) -> Result<(), Fail> {
     match step {
-        Step::Apply(sample, want) => {
+        LedgerStep::Apply(sample, want) => {
             let answer = apply(alloc, ledger, at as u64, sample)?;
             assert_answer(rt, at, &answer, &want)
         }
-        Step::Check(sample, want) => assert_answer(rt, at, &check(alloc, ledger, sample)?, &want),
-        Step::Owes(number, want) => assert_answer(rt, at, &ledger.owes(line(number)), &want),
-        Step::Spot(number, want) => assert_answer(rt, at, &told(ledger, number), &want),
-        Step::Numbers(want) => {
+        LedgerStep::Check(sample, want) => assert_answer(
+            rt,
+            at,
+            &check(alloc, ledger, sample)?,
+            &want,
+        ),
+        LedgerStep::Owes(number, want) => assert_answer(rt, at, &ledger.owes(line(number)), &want),
+        LedgerStep::Spot(number, want) => assert_answer(rt, at, &told(ledger, number), &want),
+        LedgerStep::Numbers(want) => {
             let want = lines(alloc, want)?;
             assert_answer(rt, at, &ledger.keys(alloc)?.as_slice(), &want.as_slice())
         }
-        Step::Keys(want) => {
+        LedgerStep::Keys(want) => {
             let want = keys_of(alloc, want)?;
             assert_answer(rt, at, &ledger.keys(alloc)?.as_slice(), &want.as_slice())
         }
-        Step::Totals(want) => assert_answer(rt, at, &ledger.totals(), &want),
-        Step::Mark(want) => assert_answer(rt, at, &ledger.mark(), &want),
-        Step::Closed(want) => assert_answer(rt, at, &ledger.closed(), &want),
-        Step::ImportMark(want) => assert_answer(rt, at, &ledger.import_mark(), &want),
+        LedgerStep::Totals(want) => assert_answer(rt, at, &ledger.totals(), &want),
+        LedgerStep::Mark(want) => assert_answer(rt, at, &ledger.mark(), &want),
+        LedgerStep::Closed(want) => assert_answer(rt, at, &ledger.closed(), &want),
+        LedgerStep::ImportMark(want) => assert_answer(rt, at, &ledger.import_mark(), &want),
     }
     Ok(())
 }
 
-fn run<A: Abort>(rt: &A, alloc: Global, mut ledger: Ledger, steps: &[Step]) -> Result<(), Fail> {
+fn run<A: Abort>(
+    rt: &A,
+    alloc: Global,
+    mut ledger: Ledger,
+    steps: &[LedgerStep],
+) -> Result<(), Fail> {
     for (at, step) in steps.iter().enumerate() {
         take(rt, alloc, &mut ledger, at, *step)?;
     }
@@ -93,83 +103,83 @@ fn run<A: Abort>(rt: &A, alloc: Global, mut ledger: Ledger, steps: &[Step]) -> R
 
 #[test]
 fn notes_leave_a_ledger(rt: HostRuntime) -> Result<(), Fail> {
-    const SCRIPTS: &[&[Step]] = &[
+    const SCRIPTS: &[&[LedgerStep]] = &[
         // Notes change it.
         &[
-            Step::Mark(0),
-            Step::Apply(Sample::Owe(1), Ok(())),
-            Step::Apply(Sample::Owe(2), Ok(())),
-            Step::Apply(Sample::Owe(1), Err(LedgerFault::OldNumber)),
-            Step::Numbers(&[1, 2]),
-            Step::Apply(Sample::Final(1), Ok(())),
-            Step::Owes(1, false),
-            Step::Owes(2, true),
-            Step::Totals(Totals {
+            LedgerStep::Mark(0),
+            LedgerStep::Apply(Sample::Owe(1), Ok(())),
+            LedgerStep::Apply(Sample::Owe(2), Ok(())),
+            LedgerStep::Apply(Sample::Owe(1), Err(LedgerFault::OldNumber)),
+            LedgerStep::Numbers(&[1, 2]),
+            LedgerStep::Apply(Sample::Final(1), Ok(())),
+            LedgerStep::Owes(1, false),
+            LedgerStep::Owes(2, true),
+            LedgerStep::Totals(Totals {
                 taken: 2,
                 answered: 1,
                 dropped: 0,
                 owed: 1,
                 owed_bytes: 10,
             }),
-            Step::Apply(Sample::Final(1), Err(LedgerFault::NotOwed)),
-            Step::Apply(Sample::Drop(2), Ok(())),
-            Step::Apply(Sample::Seen(9), Ok(())),
-            Step::Apply(Sample::Seen(9), Err(LedgerFault::OldNumber)),
-            Step::Mark(9),
-            Step::Totals(Totals {
+            LedgerStep::Apply(Sample::Final(1), Err(LedgerFault::NotOwed)),
+            LedgerStep::Apply(Sample::Drop(2), Ok(())),
+            LedgerStep::Apply(Sample::Seen(9), Ok(())),
+            LedgerStep::Apply(Sample::Seen(9), Err(LedgerFault::OldNumber)),
+            LedgerStep::Mark(9),
+            LedgerStep::Totals(Totals {
                 taken: 2,
                 answered: 1,
                 dropped: 1,
                 owed: 0,
                 owed_bytes: 0,
             }),
-            Step::Numbers(&[]),
+            LedgerStep::Numbers(&[]),
         ],
         // A check returns what a note would return.
         &[
-            Step::Check(Sample::Owe(1), Ok(())),
-            Step::Check(Sample::Final(1), Err(LedgerFault::NotOwed)),
-            Step::Apply(Sample::Owe(1), Ok(())),
-            Step::Check(Sample::Owe(1), Err(LedgerFault::OldNumber)),
-            Step::Check(Sample::Final(1), Ok(())),
-            Step::Check(Sample::Drop(1), Ok(())),
-            Step::Check(Sample::Drop(2), Err(LedgerFault::NotOwed)),
-            Step::Check(Sample::Seen(1), Err(LedgerFault::OldNumber)),
-            Step::Check(Sample::Seen(2), Ok(())),
-            Step::Mark(1),
+            LedgerStep::Check(Sample::Owe(1), Ok(())),
+            LedgerStep::Check(Sample::Final(1), Err(LedgerFault::NotOwed)),
+            LedgerStep::Apply(Sample::Owe(1), Ok(())),
+            LedgerStep::Check(Sample::Owe(1), Err(LedgerFault::OldNumber)),
+            LedgerStep::Check(Sample::Final(1), Ok(())),
+            LedgerStep::Check(Sample::Drop(1), Ok(())),
+            LedgerStep::Check(Sample::Drop(2), Err(LedgerFault::NotOwed)),
+            LedgerStep::Check(Sample::Seen(1), Err(LedgerFault::OldNumber)),
+            LedgerStep::Check(Sample::Seen(2), Ok(())),
+            LedgerStep::Mark(1),
         ],
         // A debt is found.
         &[
-            Step::Apply(Sample::Owe(1), Ok(())),
-            Step::Apply(Sample::Owe(3), Ok(())),
-            Step::Spot(1, Some((0, 3, 5))),
-            Step::Spot(3, Some((1, 3, 5))),
-            Step::Spot(2, None),
-            Step::Apply(Sample::Final(3), Ok(())),
-            Step::Spot(3, None),
+            LedgerStep::Apply(Sample::Owe(1), Ok(())),
+            LedgerStep::Apply(Sample::Owe(3), Ok(())),
+            LedgerStep::Spot(1, Some((0, 3, 5))),
+            LedgerStep::Spot(3, Some((1, 3, 5))),
+            LedgerStep::Spot(2, None),
+            LedgerStep::Apply(Sample::Final(3), Ok(())),
+            LedgerStep::Spot(3, None),
         ],
         // Lines of the open source are owed, after those of the funnel, until it is closed.
         &[
-            Step::Check(Sample::OweFrom(2, 1), Err(LedgerFault::OldNumber)),
-            Step::Apply(Sample::OweFrom(1, 2), Ok(())),
-            Step::Apply(Sample::OweFrom(1, 2), Err(LedgerFault::OldNumber)),
-            Step::Apply(Sample::Owe(7), Ok(())),
-            Step::Keys(&[(0, 7), (1, 2)]),
-            Step::ImportMark(2),
-            Step::Apply(Sample::Closed(2), Err(LedgerFault::OldNumber)),
-            Step::Check(Sample::Closed(1), Ok(())),
-            Step::Apply(Sample::Closed(1), Ok(())),
-            Step::Closed(1),
-            Step::ImportMark(0),
-            Step::Mark(7),
-            Step::Apply(Sample::OweFrom(1, 3), Err(LedgerFault::OldNumber)),
-            Step::Apply(Sample::OweFrom(2, 1), Ok(())),
-            Step::Keys(&[(0, 7), (1, 2), (2, 1)]),
-            Step::Apply(Sample::FinalFrom(1, 2), Ok(())),
-            Step::Apply(Sample::FinalFrom(1, 2), Err(LedgerFault::NotOwed)),
-            Step::Apply(Sample::DropFrom(2, 1), Ok(())),
-            Step::Numbers(&[7]),
-            Step::Totals(Totals {
+            LedgerStep::Check(Sample::OweFrom(2, 1), Err(LedgerFault::OldNumber)),
+            LedgerStep::Apply(Sample::OweFrom(1, 2), Ok(())),
+            LedgerStep::Apply(Sample::OweFrom(1, 2), Err(LedgerFault::OldNumber)),
+            LedgerStep::Apply(Sample::Owe(7), Ok(())),
+            LedgerStep::Keys(&[(0, 7), (1, 2)]),
+            LedgerStep::ImportMark(2),
+            LedgerStep::Apply(Sample::Closed(2), Err(LedgerFault::OldNumber)),
+            LedgerStep::Check(Sample::Closed(1), Ok(())),
+            LedgerStep::Apply(Sample::Closed(1), Ok(())),
+            LedgerStep::Closed(1),
+            LedgerStep::ImportMark(0),
+            LedgerStep::Mark(7),
+            LedgerStep::Apply(Sample::OweFrom(1, 3), Err(LedgerFault::OldNumber)),
+            LedgerStep::Apply(Sample::OweFrom(2, 1), Ok(())),
+            LedgerStep::Keys(&[(0, 7), (1, 2), (2, 1)]),
+            LedgerStep::Apply(Sample::FinalFrom(1, 2), Ok(())),
+            LedgerStep::Apply(Sample::FinalFrom(1, 2), Err(LedgerFault::NotOwed)),
+            LedgerStep::Apply(Sample::DropFrom(2, 1), Ok(())),
+            LedgerStep::Numbers(&[7]),
+            LedgerStep::Totals(Totals {
                 taken: 3,
                 answered: 1,
                 dropped: 1,
@@ -203,9 +213,9 @@ fn replayed(alloc: Global, payloads: &[&[u8]]) -> Result<Result<Ledger, ReplayFa
 
 #[test]
 fn replays(rt: HostRuntime) -> Result<(), Fail> {
-    const STEPS: &[Step] = &[
-        Step::Mark(7),
-        Step::Totals(Totals {
+    const STEPS: &[LedgerStep] = &[
+        LedgerStep::Mark(7),
+        LedgerStep::Totals(Totals {
             taken: 1,
             answered: 1,
             dropped: 0,

@@ -1,7 +1,7 @@
 // Outlines of ledgers, at which steps are taken, and copies of notes.
 use crate::answers::assert_answer;
 use crate::ledgers::{Payload, spelled};
-use crate::samples::{Line, Sample, id, is_sample, keys_of, note_of, token};
+use crate::samples::{Sample, SourceLine, id, is_sample, keys_of, note_of, token};
 use ledger_core::{Key, Ledger, LedgerFault, Outline, Totals};
 use std::alloc::Global;
 use std::process::Abort;
@@ -9,22 +9,22 @@ use std::test::Fail;
 
 // What is done to an outline, or asked of it, and the wanted answer.
 #[derive(Clone, Copy)]
-enum Step {
+enum OutlineStep {
     // A note of this ordinal.
     Apply(Sample, u64, Result<(), LedgerFault>),
     // The note of this ordinal that owes a debt, by its parts.
-    Owe(Line, u64, Result<(), LedgerFault>),
+    Owe(SourceLine, u64, Result<(), LedgerFault>),
     Check(Sample, Result<(), LedgerFault>),
-    CheckOwe(Line, Result<(), LedgerFault>),
-    Owes(Line, bool),
-    Ordinal(Line, Option<u64>),
-    Keys(&'static [Line]),
+    CheckOwe(SourceLine, Result<(), LedgerFault>),
+    Owes(SourceLine, bool),
+    Ordinal(SourceLine, Option<u64>),
+    Keys(&'static [SourceLine]),
     Totals(Totals),
     // The mark of the funnel, the source that was closed last, and the mark of the next one.
     Marks(u64, u32, u64),
 }
 
-fn key_of(line: Line) -> Key {
+fn key_of(line: SourceLine) -> Key {
     let (source, number) = line;
     Key::new(source, number)
 }
@@ -46,7 +46,7 @@ fn apply(
 fn owe(
     alloc: Global,
     outline: &mut Outline,
-    line: Line,
+    line: SourceLine,
     ordinal: u64,
 ) -> Result<Result<(), LedgerFault>, Fail> {
     let token = token(alloc)?;
@@ -68,7 +68,7 @@ fn check(
 fn check_owe(
     alloc: Global,
     outline: &Outline,
-    line: Line,
+    line: SourceLine,
 ) -> Result<Result<(), LedgerFault>, Fail> {
     Ok(outline.check_owe(key_of(line), &token(alloc)?, &id(alloc)?))
 }
@@ -82,29 +82,39 @@ fn take<A: Abort>(
     alloc: Global,
     outline: &mut Outline,
     at: usize,
-    step: Step,
+    step: OutlineStep,
 ) -> Result<(), Fail> {
     match step {
-        Step::Apply(sample, ordinal, want) => {
+        OutlineStep::Apply(sample, ordinal, want) => {
             let answer = apply(alloc, outline, sample, ordinal)?;
             assert_answer(rt, at, &answer, &want)
         }
-        Step::Owe(line, ordinal, want) => {
+        OutlineStep::Owe(line, ordinal, want) => {
             let answer = owe(alloc, outline, line, ordinal)?;
             assert_answer(rt, at, &answer, &want)
         }
-        Step::Check(sample, want) => assert_answer(rt, at, &check(alloc, outline, sample)?, &want),
-        Step::CheckOwe(line, want) => {
+        OutlineStep::Check(sample, want) => assert_answer(
+            rt,
+            at,
+            &check(alloc, outline, sample)?,
+            &want,
+        ),
+        OutlineStep::CheckOwe(line, want) => {
             assert_answer(rt, at, &check_owe(alloc, outline, line)?, &want)
         }
-        Step::Owes(line, want) => assert_answer(rt, at, &outline.owes(key_of(line)), &want),
-        Step::Ordinal(line, want) => assert_answer(rt, at, &outline.ordinal(key_of(line)), &want),
-        Step::Keys(want) => {
+        OutlineStep::Owes(line, want) => assert_answer(rt, at, &outline.owes(key_of(line)), &want),
+        OutlineStep::Ordinal(line, want) => assert_answer(
+            rt,
+            at,
+            &outline.ordinal(key_of(line)),
+            &want,
+        ),
+        OutlineStep::Keys(want) => {
             let want = keys_of(alloc, want)?;
             assert_answer(rt, at, &outline.keys(alloc)?.as_slice(), &want.as_slice())
         }
-        Step::Totals(want) => assert_answer(rt, at, &outline.totals(), &want),
-        Step::Marks(mark, closed, import_mark) => {
+        OutlineStep::Totals(want) => assert_answer(rt, at, &outline.totals(), &want),
+        OutlineStep::Marks(mark, closed, import_mark) => {
             assert_answer(rt, at, &marks(outline), &(mark, closed, import_mark))
         }
     }
@@ -112,7 +122,12 @@ fn take<A: Abort>(
 }
 
 // The outline is that of the ledger which these payloads leave.
-fn run<A: Abort>(rt: &A, alloc: Global, payloads: &[Payload], steps: &[Step]) -> Result<(), Fail> {
+fn run<A: Abort>(
+    rt: &A,
+    alloc: Global,
+    payloads: &[Payload],
+    steps: &[OutlineStep],
+) -> Result<(), Fail> {
     let restored = Ledger::restore(alloc, &spelled(alloc, payloads)?)?;
     let mut outline = Outline::of(alloc, &restored.ledger)?;
     for (at, step) in steps.iter().enumerate() {
@@ -123,7 +138,7 @@ fn run<A: Abort>(rt: &A, alloc: Global, payloads: &[Payload], steps: &[Step]) ->
 
 #[test]
 fn an_outline_goes_on_as_its_ledger(rt: HostRuntime) -> Result<(), Fail> {
-    const SCRIPTS: &[(&[Payload], &[Step])] = &[
+    const SCRIPTS: &[(&[Payload], &[OutlineStep])] = &[
         (
             &[
                 Payload::Note(Sample::Owe(1)),
@@ -133,34 +148,34 @@ fn an_outline_goes_on_as_its_ledger(rt: HostRuntime) -> Result<(), Fail> {
             ],
             &[
                 // What the ledger owed has the ordinal 0.
-                Step::Marks(2, 0, 3),
-                Step::Keys(&[(0, 2), (1, 3)]),
-                Step::Ordinal((0, 1), None),
-                Step::Ordinal((0, 2), Some(0)),
-                Step::Ordinal((1, 3), Some(0)),
+                OutlineStep::Marks(2, 0, 3),
+                OutlineStep::Keys(&[(0, 2), (1, 3)]),
+                OutlineStep::Ordinal((0, 1), None),
+                OutlineStep::Ordinal((0, 2), Some(0)),
+                OutlineStep::Ordinal((1, 3), Some(0)),
                 // A debt of a later note has the ordinal of that note; a refused note leaves none.
-                Step::Apply(Sample::Owe(2), 1, Err(LedgerFault::OldNumber)),
-                Step::Apply(Sample::Owe(5), 1, Ok(())),
-                Step::Apply(Sample::OweFrom(1, 4), 2, Ok(())),
-                Step::Owe((1, 4), 3, Err(LedgerFault::OldNumber)),
-                Step::Owe((0, 6), u64::MAX, Ok(())),
-                Step::Ordinal((0, 2), Some(0)),
-                Step::Ordinal((0, 5), Some(1)),
-                Step::Ordinal((0, 6), Some(u64::MAX)),
-                Step::Ordinal((1, 4), Some(2)),
-                Step::Keys(&[(0, 2), (0, 5), (0, 6), (1, 3), (1, 4)]),
+                OutlineStep::Apply(Sample::Owe(2), 1, Err(LedgerFault::OldNumber)),
+                OutlineStep::Apply(Sample::Owe(5), 1, Ok(())),
+                OutlineStep::Apply(Sample::OweFrom(1, 4), 2, Ok(())),
+                OutlineStep::Owe((1, 4), 3, Err(LedgerFault::OldNumber)),
+                OutlineStep::Owe((0, 6), u64::MAX, Ok(())),
+                OutlineStep::Ordinal((0, 2), Some(0)),
+                OutlineStep::Ordinal((0, 5), Some(1)),
+                OutlineStep::Ordinal((0, 6), Some(u64::MAX)),
+                OutlineStep::Ordinal((1, 4), Some(2)),
+                OutlineStep::Keys(&[(0, 2), (0, 5), (0, 6), (1, 3), (1, 4)]),
                 // A debt that has ended has none.
-                Step::Apply(Sample::Drop(2), 3, Ok(())),
-                Step::Apply(Sample::Final(2), 4, Err(LedgerFault::NotOwed)),
-                Step::Apply(Sample::Final(5), 4, Ok(())),
-                Step::Apply(Sample::FinalFrom(1, 3), 5, Ok(())),
-                Step::Apply(Sample::DropFrom(1, 4), 6, Ok(())),
-                Step::Ordinal((0, 2), None),
-                Step::Ordinal((1, 3), None),
-                Step::Owes((0, 5), false),
-                Step::Owes((0, 6), true),
-                Step::Keys(&[(0, 6)]),
-                Step::Totals(Totals {
+                OutlineStep::Apply(Sample::Drop(2), 3, Ok(())),
+                OutlineStep::Apply(Sample::Final(2), 4, Err(LedgerFault::NotOwed)),
+                OutlineStep::Apply(Sample::Final(5), 4, Ok(())),
+                OutlineStep::Apply(Sample::FinalFrom(1, 3), 5, Ok(())),
+                OutlineStep::Apply(Sample::DropFrom(1, 4), 6, Ok(())),
+                OutlineStep::Ordinal((0, 2), None),
+                OutlineStep::Ordinal((1, 3), None),
+                OutlineStep::Owes((0, 5), false),
+                OutlineStep::Owes((0, 6), true),
+                OutlineStep::Keys(&[(0, 6)]),
+                OutlineStep::Totals(Totals {
                     taken: 6,
                     answered: 3,
                     dropped: 2,
@@ -168,14 +183,14 @@ fn an_outline_goes_on_as_its_ledger(rt: HostRuntime) -> Result<(), Fail> {
                     owed_bytes: 10,
                 }),
                 // The marks rise, and a source that is closed is followed by the next.
-                Step::Apply(Sample::Seen(6), 7, Err(LedgerFault::OldNumber)),
-                Step::Apply(Sample::Seen(9), 7, Ok(())),
-                Step::Apply(Sample::Closed(2), 8, Err(LedgerFault::OldNumber)),
-                Step::Apply(Sample::Closed(1), 8, Ok(())),
-                Step::Marks(9, 1, 0),
-                Step::Apply(Sample::OweFrom(1, 5), 9, Err(LedgerFault::OldNumber)),
-                Step::Apply(Sample::OweFrom(2, 1), 9, Ok(())),
-                Step::Marks(9, 1, 1),
+                OutlineStep::Apply(Sample::Seen(6), 7, Err(LedgerFault::OldNumber)),
+                OutlineStep::Apply(Sample::Seen(9), 7, Ok(())),
+                OutlineStep::Apply(Sample::Closed(2), 8, Err(LedgerFault::OldNumber)),
+                OutlineStep::Apply(Sample::Closed(1), 8, Ok(())),
+                OutlineStep::Marks(9, 1, 0),
+                OutlineStep::Apply(Sample::OweFrom(1, 5), 9, Err(LedgerFault::OldNumber)),
+                OutlineStep::Apply(Sample::OweFrom(2, 1), 9, Ok(())),
+                OutlineStep::Marks(9, 1, 1),
             ],
         ),
         // A check returns what a note would return, and changes nothing.
@@ -185,39 +200,39 @@ fn an_outline_goes_on_as_its_ledger(rt: HostRuntime) -> Result<(), Fail> {
                 Payload::Note(Sample::OweFrom(1, 1)),
             ],
             &[
-                Step::Check(Sample::Owe(1), Err(LedgerFault::OldNumber)),
-                Step::Check(Sample::Owe(2), Ok(())),
-                Step::Check(Sample::OweFrom(2, 1), Err(LedgerFault::OldNumber)),
-                Step::CheckOwe((0, 1), Err(LedgerFault::OldNumber)),
-                Step::CheckOwe((1, 2), Ok(())),
-                Step::Check(Sample::Final(1), Ok(())),
-                Step::Check(Sample::Drop(2), Err(LedgerFault::NotOwed)),
-                Step::Check(Sample::FinalFrom(1, 2), Err(LedgerFault::NotOwed)),
-                Step::Check(Sample::DropFrom(1, 1), Ok(())),
-                Step::Check(Sample::Seen(1), Err(LedgerFault::OldNumber)),
-                Step::Check(Sample::Seen(2), Ok(())),
-                Step::Check(Sample::Closed(2), Err(LedgerFault::OldNumber)),
-                Step::Check(Sample::Closed(1), Ok(())),
-                Step::Marks(1, 0, 1),
-                Step::Keys(&[(0, 1), (1, 1)]),
+                OutlineStep::Check(Sample::Owe(1), Err(LedgerFault::OldNumber)),
+                OutlineStep::Check(Sample::Owe(2), Ok(())),
+                OutlineStep::Check(Sample::OweFrom(2, 1), Err(LedgerFault::OldNumber)),
+                OutlineStep::CheckOwe((0, 1), Err(LedgerFault::OldNumber)),
+                OutlineStep::CheckOwe((1, 2), Ok(())),
+                OutlineStep::Check(Sample::Final(1), Ok(())),
+                OutlineStep::Check(Sample::Drop(2), Err(LedgerFault::NotOwed)),
+                OutlineStep::Check(Sample::FinalFrom(1, 2), Err(LedgerFault::NotOwed)),
+                OutlineStep::Check(Sample::DropFrom(1, 1), Ok(())),
+                OutlineStep::Check(Sample::Seen(1), Err(LedgerFault::OldNumber)),
+                OutlineStep::Check(Sample::Seen(2), Ok(())),
+                OutlineStep::Check(Sample::Closed(2), Err(LedgerFault::OldNumber)),
+                OutlineStep::Check(Sample::Closed(1), Ok(())),
+                OutlineStep::Marks(1, 0, 1),
+                OutlineStep::Keys(&[(0, 1), (1, 1)]),
             ],
         ),
         // Not a note.
         (
             &[],
             &[
-                Step::Marks(0, 0, 0),
-                Step::Keys(&[]),
-                Step::Ordinal((0, 1), None),
-                Step::Totals(Totals {
+                OutlineStep::Marks(0, 0, 0),
+                OutlineStep::Keys(&[]),
+                OutlineStep::Ordinal((0, 1), None),
+                OutlineStep::Totals(Totals {
                     taken: 0,
                     answered: 0,
                     dropped: 0,
                     owed: 0,
                     owed_bytes: 0,
                 }),
-                Step::Apply(Sample::Owe(1), 0, Ok(())),
-                Step::Ordinal((0, 1), Some(0)),
+                OutlineStep::Apply(Sample::Owe(1), 0, Ok(())),
+                OutlineStep::Ordinal((0, 1), Some(0)),
             ],
         ),
         // No more debts can be counted as taken, and the open source is the last.
@@ -227,32 +242,32 @@ fn an_outline_goes_on_as_its_ledger(rt: HostRuntime) -> Result<(), Fail> {
                 Payload::Note(Sample::Owe(5)),
             ],
             &[
-                Step::Marks(5, 4_294_967_294, 0),
-                Step::Check(Sample::Owe(6), Err(LedgerFault::CountFull)),
-                Step::Apply(Sample::Owe(6), 1, Err(LedgerFault::CountFull)),
-                Step::CheckOwe((4_294_967_295, 1), Err(LedgerFault::CountFull)),
-                Step::Apply(Sample::Owe(5), 1, Err(LedgerFault::OldNumber)),
-                Step::Check(Sample::Closed(4_294_967_295), Err(LedgerFault::CountFull)),
-                Step::Apply(
+                OutlineStep::Marks(5, 4_294_967_294, 0),
+                OutlineStep::Check(Sample::Owe(6), Err(LedgerFault::CountFull)),
+                OutlineStep::Apply(Sample::Owe(6), 1, Err(LedgerFault::CountFull)),
+                OutlineStep::CheckOwe((4_294_967_295, 1), Err(LedgerFault::CountFull)),
+                OutlineStep::Apply(Sample::Owe(5), 1, Err(LedgerFault::OldNumber)),
+                OutlineStep::Check(Sample::Closed(4_294_967_295), Err(LedgerFault::CountFull)),
+                OutlineStep::Apply(
                     Sample::Closed(4_294_967_295),
                     1,
                     Err(LedgerFault::CountFull),
                 ),
-                Step::Apply(
+                OutlineStep::Apply(
                     Sample::Closed(4_294_967_294),
                     1,
                     Err(LedgerFault::OldNumber),
                 ),
-                Step::Apply(Sample::Final(5), 1, Ok(())),
-                Step::Totals(Totals {
+                OutlineStep::Apply(Sample::Final(5), 1, Ok(())),
+                OutlineStep::Totals(Totals {
                     taken: u64::MAX,
                     answered: u64::MAX,
                     dropped: 0,
                     owed: 0,
                     owed_bytes: 0,
                 }),
-                Step::Apply(Sample::Owe(6), 2, Err(LedgerFault::CountFull)),
-                Step::Marks(5, 4_294_967_294, 0),
+                OutlineStep::Apply(Sample::Owe(6), 2, Err(LedgerFault::CountFull)),
+                OutlineStep::Marks(5, 4_294_967_294, 0),
             ],
         ),
     ];

@@ -16,15 +16,15 @@ fn reader_of<D: Disk + Drop>(alloc: Global, disk: D) -> Result<SegmentReader<D>,
 
 // What a reader gives up to the end of its segment.
 #[derive(Clone, Copy, Debug, PartialEq)]
-struct Given {
+struct GivenCounts {
     // How many payloads there are, and how many octets they have.
     payloads: u64,
     octets: u64,
     too_long: u64,
 }
 
-fn read_on<D: Disk>(reader: &mut SegmentReader<D>) -> Result<Given, OpenFault> {
-    let mut given = Given {
+fn read_on<D: Disk>(reader: &mut SegmentReader<D>) -> Result<GivenCounts, OpenFault> {
+    let mut given = GivenCounts {
         payloads: 0,
         octets: 0,
         too_long: 0,
@@ -43,7 +43,7 @@ fn read_on<D: Disk>(reader: &mut SegmentReader<D>) -> Result<Given, OpenFault> {
 }
 
 // What is given of a segment, and how many calls of its disk that takes.
-fn reading_of(alloc: Global, segment: &[u8]) -> Result<(Given, u64), Fail> {
+fn reading_of(alloc: Global, segment: &[u8]) -> Result<(GivenCounts, u64), Fail> {
     for calls in 0..10 {
         let disk = FuseDisk::new(disk_of(alloc, segment)?, calls);
         match read_on(&mut reader_of(alloc, disk)?) {
@@ -74,7 +74,7 @@ fn a_segment_is_read_record_by_record(rt: HostRuntime) -> Result<(), Fail> {
     for (at, (count, len, are_given, reads)) in ROWS.iter().enumerate() {
         let segment = segment_of(alloc, *count, *len)?;
         let payloads = if *are_given { *count } else { 0 };
-        let given = Given {
+        let given = GivenCounts {
             payloads,
             octets: payloads.saturating_mul(u64::from(*len)),
             too_long: count.saturating_sub(payloads),

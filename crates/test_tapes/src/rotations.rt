@@ -3,9 +3,9 @@
 use crate::answers::assert_answer;
 use crate::disks::{assert_both, disks_of};
 use crate::samples::Sample;
-use crate::tape_steps::{Octets, ReopenedTape, Step, opened, run_each};
+use crate::tape_steps::{Octets, ReopenedTape, TapeStep, opened, run_each};
 use crate::tapes::{
-    Calls, Counts, FILLS, OLD_NUMBER, OWED, assert_damaged, assert_prefixes, image, stopped,
+    CallsLeft, DebtRange, FILLS, OLD_NUMBER, OWED, assert_damaged, assert_prefixes, image, stopped,
 };
 use disk_model::MemDisk;
 use ledger_core::Totals;
@@ -222,22 +222,25 @@ const SCRIPTS: &[(Octets, &[ReopenedTape])] = &[
         &[
             (
                 &[
-                    Step::Note(Sample::Owe(1), Ok(())),
-                    Step::Flush(Ok(1)),
-                    Step::Rotate(Ok(1)),
+                    TapeStep::Note(Sample::Owe(1), Ok(())),
+                    TapeStep::Flush(Ok(1)),
+                    TapeStep::Rotate(Ok(1)),
                 ],
                 Some((&OWED, &ROTATED)),
             ),
             (
                 &[
-                    Step::Numbers(&[1]),
-                    Step::Rotate(Ok(2)),
-                    Step::Numbers(&[1]),
+                    TapeStep::Numbers(&[1]),
+                    TapeStep::Rotate(Ok(2)),
+                    TapeStep::Numbers(&[1]),
                 ],
                 None,
             ),
-            (&[Step::Rotate(Ok(3)), Step::Rotate(Ok(4))], None),
-            (&[Step::Numbers(&[1]), Step::Debt(1, Ok(Some(1)))], None),
+            (&[TapeStep::Rotate(Ok(3)), TapeStep::Rotate(Ok(4))], None),
+            (
+                &[TapeStep::Numbers(&[1]), TapeStep::Debt(1, Ok(Some(1)))],
+                None,
+            ),
         ],
     ),
     // Each rotation keeps the ledger, and what is pending is in it.
@@ -246,98 +249,98 @@ const SCRIPTS: &[(Octets, &[ReopenedTape])] = &[
         &[
             (
                 &[
-                    Step::OweEach(1, 4),
-                    Step::Note(Sample::Owe(5), Ok(())),
-                    Step::Note(Sample::Final(1), Ok(())),
-                    Step::Note(Sample::Drop(2), Ok(())),
-                    Step::Flush(Ok(6)),
+                    TapeStep::OweEach(1, 4),
+                    TapeStep::Note(Sample::Owe(5), Ok(())),
+                    TapeStep::Note(Sample::Final(1), Ok(())),
+                    TapeStep::Note(Sample::Drop(2), Ok(())),
+                    TapeStep::Flush(Ok(6)),
                 ],
                 Some((&NOTED, &[])),
             ),
             (
                 &[
-                    Step::Note(Sample::Owe(7), Ok(())),
-                    Step::Note(Sample::Final(3), Ok(())),
-                    Step::Room(65534),
-                    Step::Rotate(Ok(1)),
-                    Step::Room(65536),
-                    Step::Flush(Ok(2)),
-                    Step::Numbers(&[5, 7]),
-                    Step::IsBroken(false),
+                    TapeStep::Note(Sample::Owe(7), Ok(())),
+                    TapeStep::Note(Sample::Final(3), Ok(())),
+                    TapeStep::Room(65534),
+                    TapeStep::Rotate(Ok(1)),
+                    TapeStep::Room(65536),
+                    TapeStep::Flush(Ok(2)),
+                    TapeStep::Numbers(&[5, 7]),
+                    TapeStep::IsBroken(false),
                 ],
                 Some((&NOTED, &ONCE)),
             ),
             (
                 &[
-                    Step::Mark(7),
-                    Step::Numbers(&[5, 7]),
-                    Step::Totals(Totals {
+                    TapeStep::Mark(7),
+                    TapeStep::Numbers(&[5, 7]),
+                    TapeStep::Totals(Totals {
                         taken: 5,
                         answered: 2,
                         dropped: 1,
                         owed: 2,
                         owed_bytes: 20,
                     }),
-                    Step::Debt(5, Ok(Some(5))),
-                    Step::Debt(7, Ok(Some(7))),
-                    Step::Debt(3, Ok(None)),
-                    Step::Note(Sample::Seen(8), Ok(())),
-                    Step::Note(Sample::Owe(9), Ok(())),
-                    Step::Flush(Ok(2)),
-                    Step::Note(Sample::Final(5), Ok(())),
-                    Step::Rotate(Ok(2)),
-                    Step::Flush(Ok(3)),
+                    TapeStep::Debt(5, Ok(Some(5))),
+                    TapeStep::Debt(7, Ok(Some(7))),
+                    TapeStep::Debt(3, Ok(None)),
+                    TapeStep::Note(Sample::Seen(8), Ok(())),
+                    TapeStep::Note(Sample::Owe(9), Ok(())),
+                    TapeStep::Flush(Ok(2)),
+                    TapeStep::Note(Sample::Final(5), Ok(())),
+                    TapeStep::Rotate(Ok(2)),
+                    TapeStep::Flush(Ok(3)),
                 ],
                 Some((&TWICE, &ONCE_NOTED)),
             ),
             (
                 &[
-                    Step::Mark(9),
-                    Step::Numbers(&[7, 9]),
-                    Step::Totals(Totals {
+                    TapeStep::Mark(9),
+                    TapeStep::Numbers(&[7, 9]),
+                    TapeStep::Totals(Totals {
                         taken: 6,
                         answered: 3,
                         dropped: 1,
                         owed: 2,
                         owed_bytes: 20,
                     }),
-                    Step::DropAll(&[9], Ok(())),
-                    Step::Rotate(Ok(3)),
+                    TapeStep::DropAll(&[9], Ok(())),
+                    TapeStep::Rotate(Ok(3)),
                 ],
                 Some((&TWICE, &THRICE)),
             ),
             (
                 &[
-                    Step::Mark(9),
-                    Step::Numbers(&[7]),
-                    Step::Totals(Totals {
+                    TapeStep::Mark(9),
+                    TapeStep::Numbers(&[7]),
+                    TapeStep::Totals(Totals {
                         taken: 6,
                         answered: 3,
                         dropped: 2,
                         owed: 1,
                         owed_bytes: 10,
                     }),
-                    Step::Debt(7, Ok(Some(7))),
-                    Step::Note(Sample::Final(7), Ok(())),
-                    Step::Flush(Ok(1)),
+                    TapeStep::Debt(7, Ok(Some(7))),
+                    TapeStep::Note(Sample::Final(7), Ok(())),
+                    TapeStep::Flush(Ok(1)),
                 ],
                 Some((&TWICE, &THRICE_NOTED)),
             ),
             (
-                &[Step::Numbers(&[]), Step::Rotate(Ok(4))],
+                &[TapeStep::Numbers(&[]), TapeStep::Rotate(Ok(4))],
                 Some((&FOUR_TIMES, &THRICE_NOTED)),
             ),
             (
                 &[
-                    Step::Mark(9),
-                    Step::Totals(Totals {
+                    TapeStep::Mark(9),
+                    TapeStep::Totals(Totals {
                         taken: 6,
                         answered: 4,
                         dropped: 2,
                         owed: 0,
                         owed_bytes: 0,
                     }),
-                    Step::Note(Sample::Seen(9), Err(OLD_NUMBER)),
+                    TapeStep::Note(Sample::Seen(9), Err(OLD_NUMBER)),
                 ],
                 Some((&FOUR_TIMES, &THRICE_NOTED)),
             ),
@@ -349,60 +352,60 @@ const SCRIPTS: &[(Octets, &[ReopenedTape])] = &[
         &[
             (
                 &[
-                    Step::OweEach(1, 4),
-                    Step::Note(Sample::OweFrom(1, 1), Ok(())),
-                    Step::Note(Sample::OweFrom(1, 2), Ok(())),
-                    Step::Note(Sample::OweFrom(1, 3), Ok(())),
-                    Step::Note(Sample::Final(1), Ok(())),
-                    Step::Note(Sample::Drop(2), Ok(())),
-                    Step::Note(Sample::FinalFrom(1, 1), Ok(())),
-                    Step::Note(Sample::DropFrom(1, 2), Ok(())),
-                    Step::Note(Sample::Closed(1), Ok(())),
-                    Step::Note(Sample::OweFrom(2, 4), Ok(())),
-                    Step::Note(Sample::Seen(5), Ok(())),
-                    Step::Flush(Ok(13)),
+                    TapeStep::OweEach(1, 4),
+                    TapeStep::Note(Sample::OweFrom(1, 1), Ok(())),
+                    TapeStep::Note(Sample::OweFrom(1, 2), Ok(())),
+                    TapeStep::Note(Sample::OweFrom(1, 3), Ok(())),
+                    TapeStep::Note(Sample::Final(1), Ok(())),
+                    TapeStep::Note(Sample::Drop(2), Ok(())),
+                    TapeStep::Note(Sample::FinalFrom(1, 1), Ok(())),
+                    TapeStep::Note(Sample::DropFrom(1, 2), Ok(())),
+                    TapeStep::Note(Sample::Closed(1), Ok(())),
+                    TapeStep::Note(Sample::OweFrom(2, 4), Ok(())),
+                    TapeStep::Note(Sample::Seen(5), Ok(())),
+                    TapeStep::Flush(Ok(13)),
                 ],
                 Some((&IMPORTED, &[])),
             ),
             (
                 &[
-                    Step::Keys(&[(0, 3), (1, 3), (2, 4)]),
-                    Step::Mark(5),
-                    Step::Closed(1),
-                    Step::ImportMark(4),
-                    Step::DebtFrom((1, 3), Ok(Some((1, 3)))),
-                    Step::DebtFrom((2, 3), Ok(None)),
-                    Step::Note(Sample::OweFrom(1, 4), Err(OLD_NUMBER)),
-                    Step::Note(Sample::OweFrom(2, 4), Err(OLD_NUMBER)),
-                    Step::Note(Sample::Closed(1), Err(OLD_NUMBER)),
-                    Step::Note(Sample::Closed(3), Err(OLD_NUMBER)),
-                    Step::Rotate(Ok(1)),
+                    TapeStep::Keys(&[(0, 3), (1, 3), (2, 4)]),
+                    TapeStep::Mark(5),
+                    TapeStep::Closed(1),
+                    TapeStep::ImportMark(4),
+                    TapeStep::DebtFrom((1, 3), Ok(Some((1, 3)))),
+                    TapeStep::DebtFrom((2, 3), Ok(None)),
+                    TapeStep::Note(Sample::OweFrom(1, 4), Err(OLD_NUMBER)),
+                    TapeStep::Note(Sample::OweFrom(2, 4), Err(OLD_NUMBER)),
+                    TapeStep::Note(Sample::Closed(1), Err(OLD_NUMBER)),
+                    TapeStep::Note(Sample::Closed(3), Err(OLD_NUMBER)),
+                    TapeStep::Rotate(Ok(1)),
                 ],
                 Some((&IMPORTED, &IMPORTED_ONCE)),
             ),
             (
                 &[
-                    Step::Keys(&[(0, 3), (1, 3), (2, 4)]),
-                    Step::Mark(5),
-                    Step::Closed(1),
-                    Step::ImportMark(4),
-                    Step::Totals(Totals {
+                    TapeStep::Keys(&[(0, 3), (1, 3), (2, 4)]),
+                    TapeStep::Mark(5),
+                    TapeStep::Closed(1),
+                    TapeStep::ImportMark(4),
+                    TapeStep::Totals(Totals {
                         taken: 7,
                         answered: 2,
                         dropped: 2,
                         owed: 3,
                         owed_bytes: 30,
                     }),
-                    Step::DebtFrom((2, 4), Ok(Some((2, 4)))),
-                    Step::Note(Sample::OweFrom(2, 5), Ok(())),
-                    Step::Note(Sample::Owe(6), Ok(())),
-                    Step::Keys(&[(0, 3), (0, 6), (1, 3), (2, 4), (2, 5)]),
-                    Step::Flush(Ok(2)),
+                    TapeStep::DebtFrom((2, 4), Ok(Some((2, 4)))),
+                    TapeStep::Note(Sample::OweFrom(2, 5), Ok(())),
+                    TapeStep::Note(Sample::Owe(6), Ok(())),
+                    TapeStep::Keys(&[(0, 3), (0, 6), (1, 3), (2, 4), (2, 5)]),
+                    TapeStep::Flush(Ok(2)),
                 ],
                 None,
             ),
             (
-                &[Step::Keys(&[(0, 3), (0, 6), (1, 3), (2, 4), (2, 5)])],
+                &[TapeStep::Keys(&[(0, 3), (0, 6), (1, 3), (2, 4), (2, 5)])],
                 None,
             ),
         ],
@@ -410,27 +413,33 @@ const SCRIPTS: &[(Octets, &[ReopenedTape])] = &[
     // A segment that is not live may close the last source.
     (
         (&LAST_SOURCE, &OTHER_TWICE),
-        &[(&[Step::Numbers(&[2])], None)],
+        &[(&[TapeStep::Numbers(&[2])], None)],
     ),
     // On a tie the first segment is live, with or without a Base; otherwise the one of greater generation.
-    ((&OWED, &NOTED), &[(&[Step::Numbers(&[1])], None)]),
-    ((&ROTATED, &OTHER), &[(&[Step::Numbers(&[1])], None)]),
-    ((&OTHER, &ROTATED), &[(&[Step::Numbers(&[2])], None)]),
-    ((&ROTATED, &NOTED), &[(&[Step::Numbers(&[1])], None)]),
-    ((&NOTED, &ROTATED), &[(&[Step::Numbers(&[1])], None)]),
-    ((&ROTATED, &OTHER_TWICE), &[(&[Step::Numbers(&[2])], None)]),
-    ((&OTHER_TWICE, &ROTATED), &[(&[Step::Numbers(&[2])], None)]),
+    ((&OWED, &NOTED), &[(&[TapeStep::Numbers(&[1])], None)]),
+    ((&ROTATED, &OTHER), &[(&[TapeStep::Numbers(&[1])], None)]),
+    ((&OTHER, &ROTATED), &[(&[TapeStep::Numbers(&[2])], None)]),
+    ((&ROTATED, &NOTED), &[(&[TapeStep::Numbers(&[1])], None)]),
+    ((&NOTED, &ROTATED), &[(&[TapeStep::Numbers(&[1])], None)]),
+    (
+        (&ROTATED, &OTHER_TWICE),
+        &[(&[TapeStep::Numbers(&[2])], None)],
+    ),
+    (
+        (&OTHER_TWICE, &ROTATED),
+        &[(&[TapeStep::Numbers(&[2])], None)],
+    ),
     // Nothing after the first record of the other segment is read, and nothing is repaired.
     (
         (&UNENDED, &OTHER_TWICE),
-        &[(&[Step::Numbers(&[2])], Some((&UNENDED, &OTHER_TWICE)))],
+        &[(&[TapeStep::Numbers(&[2])], Some((&UNENDED, &OTHER_TWICE)))],
     ),
     // A rotation overwrites whatever the other segment was.
     (
         (&NOTED, &ROTATED),
         &[
-            (&[Step::Rotate(Ok(2)), Step::Rotate(Ok(3))], None),
-            (&[Step::Numbers(&[1])], None),
+            (&[TapeStep::Rotate(Ok(2)), TapeStep::Rotate(Ok(3))], None),
+            (&[TapeStep::Numbers(&[1])], None),
         ],
     ),
     // There is no generation after the last, and the tape goes on.
@@ -439,24 +448,24 @@ const SCRIPTS: &[(Octets, &[ReopenedTape])] = &[
         &[
             (
                 &[
-                    Step::Rotate(Err(TapeFault::GenerationFull)),
-                    Step::Note(Sample::Owe(2), Ok(())),
-                    Step::Rotate(Err(TapeFault::GenerationFull)),
-                    Step::Room(65535),
-                    Step::IsBroken(false),
-                    Step::Flush(Ok(1)),
+                    TapeStep::Rotate(Err(TapeFault::GenerationFull)),
+                    TapeStep::Note(Sample::Owe(2), Ok(())),
+                    TapeStep::Rotate(Err(TapeFault::GenerationFull)),
+                    TapeStep::Room(65535),
+                    TapeStep::IsBroken(false),
+                    TapeStep::Flush(Ok(1)),
                 ],
                 Some((&OWED, &LAST_NOTED)),
             ),
-            (&[Step::Numbers(&[1, 2])], None),
+            (&[TapeStep::Numbers(&[1, 2])], None),
         ],
     ),
     (
         (&LAST_BUT_ONE, &OWED),
         &[(
             &[
-                Step::Rotate(Ok(u64::MAX)),
-                Step::Rotate(Err(TapeFault::GenerationFull)),
+                TapeStep::Rotate(Ok(u64::MAX)),
+                TapeStep::Rotate(Err(TapeFault::GenerationFull)),
             ],
             Some((&LAST_BUT_ONE, &LAST)),
         )],
@@ -467,19 +476,19 @@ const SCRIPTS: &[(Octets, &[ReopenedTape])] = &[
         (&[], &[]),
         &[(
             &[
-                Step::RotateDue(false),
-                Step::OweEach(1, 12),
-                Step::Note(Sample::Final(1), Ok(())),
-                Step::Note(Sample::Drop(2), Ok(())),
-                Step::SeenEach(12, 7267),
-                Step::Flush(Ok(7268)),
-                Step::RotateDue(false),
-                Step::Note(Sample::Seen(7267), Ok(())),
-                Step::RotateDue(false),
-                Step::Flush(Ok(7269)),
-                Step::RotateDue(true),
-                Step::Rotate(Ok(1)),
-                Step::RotateDue(false),
+                TapeStep::RotateDue(false),
+                TapeStep::OweEach(1, 12),
+                TapeStep::Note(Sample::Final(1), Ok(())),
+                TapeStep::Note(Sample::Drop(2), Ok(())),
+                TapeStep::SeenEach(12, 7267),
+                TapeStep::Flush(Ok(7268)),
+                TapeStep::RotateDue(false),
+                TapeStep::Note(Sample::Seen(7267), Ok(())),
+                TapeStep::RotateDue(false),
+                TapeStep::Flush(Ok(7269)),
+                TapeStep::RotateDue(true),
+                TapeStep::Rotate(Ok(1)),
+                TapeStep::RotateDue(false),
             ],
             None,
         )],
@@ -490,17 +499,17 @@ const SCRIPTS: &[(Octets, &[ReopenedTape])] = &[
         (&[], &[]),
         &[(
             &[
-                Step::OweEach(1, 3006),
-                Step::EndEach(1, 2163),
-                Step::Note(Sample::Drop(3005), Ok(())),
-                Step::SeenEach(3006, 3022),
-                Step::Flush(Ok(5184)),
-                Step::RotateDue(false),
-                Step::Note(Sample::Seen(3022), Ok(())),
-                Step::Flush(Ok(5185)),
-                Step::RotateDue(true),
-                Step::Rotate(Ok(1)),
-                Step::RotateDue(false),
+                TapeStep::OweEach(1, 3006),
+                TapeStep::EndEach(1, 2163),
+                TapeStep::Note(Sample::Drop(3005), Ok(())),
+                TapeStep::SeenEach(3006, 3022),
+                TapeStep::Flush(Ok(5184)),
+                TapeStep::RotateDue(false),
+                TapeStep::Note(Sample::Seen(3022), Ok(())),
+                TapeStep::Flush(Ok(5185)),
+                TapeStep::RotateDue(true),
+                TapeStep::Rotate(Ok(1)),
+                TapeStep::RotateDue(false),
             ],
             None,
         )],
@@ -623,7 +632,7 @@ fn assert_openings<A: Abort>(
     alloc: Global,
     disks: &(MemDisk, MemDisk),
     (happened, fill): (u64, u8),
-    counts: Counts,
+    counts: DebtRange,
 ) -> Result<(), Fail> {
     for calls in 0..OPENING_CALLS {
         for calls in [(calls, u64::MAX), (u64::MAX, calls)] {
@@ -639,7 +648,7 @@ fn assert_each_opening<A: Abort>(
     rt: &A,
     alloc: Global,
     disks: &(MemDisk, MemDisk),
-    counts: Counts,
+    counts: DebtRange,
 ) -> Result<(), Fail> {
     for (at, fill) in FILLS.iter().enumerate().step_by(7) {
         assert_openings(rt, alloc, disks, ((at % 8) as u64, *fill), counts)?;
@@ -648,34 +657,34 @@ fn assert_each_opening<A: Abort>(
 }
 
 // Two debts are acknowledged and a third is pending when the ledger is written.
-const STOPPED: &[Step] = &[
-    Step::Note(Sample::Owe(2), Ok(())),
-    Step::Flush(Ok(1)),
-    Step::Note(Sample::Owe(3), Ok(())),
-    Step::Rotate(Err(TapeFault::Disk)),
-    Step::IsBroken(true),
-    Step::Rotate(Err(TapeFault::Broken)),
-    Step::Flush(Err(TapeFault::Broken)),
-    Step::Numbers(&[1, 2, 3]),
+const STOPPED: &[TapeStep] = &[
+    TapeStep::Note(Sample::Owe(2), Ok(())),
+    TapeStep::Flush(Ok(1)),
+    TapeStep::Note(Sample::Owe(3), Ok(())),
+    TapeStep::Rotate(Err(TapeFault::Disk)),
+    TapeStep::IsBroken(true),
+    TapeStep::Rotate(Err(TapeFault::Broken)),
+    TapeStep::Flush(Err(TapeFault::Broken)),
+    TapeStep::Numbers(&[1, 2, 3]),
 ];
 
-const FIRST: &[Step] = &[
-    Step::Note(Sample::Owe(2), Ok(())),
-    Step::Flush(Ok(1)),
-    Step::Note(Sample::Owe(3), Ok(())),
-    Step::Rotate(Ok(1)),
+const FIRST: &[TapeStep] = &[
+    TapeStep::Note(Sample::Owe(2), Ok(())),
+    TapeStep::Flush(Ok(1)),
+    TapeStep::Note(Sample::Owe(3), Ok(())),
+    TapeStep::Rotate(Ok(1)),
 ];
 
-const SECOND: &[Step] = &[
-    Step::Note(Sample::Owe(2), Ok(())),
-    Step::Flush(Ok(1)),
-    Step::Note(Sample::Owe(3), Ok(())),
-    Step::Rotate(Ok(2)),
+const SECOND: &[TapeStep] = &[
+    TapeStep::Note(Sample::Owe(2), Ok(())),
+    TapeStep::Flush(Ok(1)),
+    TapeStep::Note(Sample::Owe(3), Ok(())),
+    TapeStep::Rotate(Ok(2)),
 ];
 
 // A rotation makes eight calls of the disk whose segment is not live: a cut, a sync, and then three writes, each with
 // a sync. The opening before makes one call of it, and two reads if it has octets.
-const STOPS: &[(Octets, Calls, &[Step], Counts)] = &[
+const STOPS: &[(Octets, CallsLeft, &[TapeStep], DebtRange)] = &[
     ((&OWED, &[]), (u64::MAX, 1), STOPPED, (2, 3)),
     ((&OWED, &[]), (u64::MAX, 2), STOPPED, (2, 3)),
     ((&OWED, &[]), (u64::MAX, 3), STOPPED, (2, 3)),

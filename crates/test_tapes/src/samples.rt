@@ -20,13 +20,13 @@ pub(crate) enum Sample {
 }
 
 // A source and the number of a line in it.
-pub(crate) type Line = (u32, u64);
+pub(crate) type SourceLine = (u32, u64);
 
 pub(crate) fn line(number: u64) -> Key {
     Key::new(0, number)
 }
 
-pub(crate) fn keys_of(alloc: Global, lines: &[Line]) -> Result<Vec<Key>, Fail> {
+pub(crate) fn keys_of(alloc: Global, lines: &[SourceLine]) -> Result<Vec<Key>, Fail> {
     let mut keys = Vec::with_capacity(alloc, lines.len())?;
     for (source, number) in lines {
         keys.push(Key::new(*source, *number))?;

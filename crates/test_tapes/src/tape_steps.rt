@@ -1,7 +1,7 @@
 // Steps at a tape, each taken by one public call of it.
 use crate::answers::assert_answer;
 use crate::disks::assert_both;
-use crate::samples::{Line, Sample, TEXTS, is_sample, keys_of, line, lines, note_of, texts};
+use crate::samples::{Sample, SourceLine, TEXTS, is_sample, keys_of, line, lines, note_of, texts};
 use disk_model::Disk;
 use ledger_core::{Cause, Debt, Key, Note, Totals};
 use recovery::{RefusedTape, Tape, TapeFault};
@@ -11,7 +11,7 @@ use std::test::Fail;
 
 // What is done to a tape, or asked of it, and the wanted answer.
 #[derive(Clone, Copy)]
-pub(crate) enum Step {
+pub(crate) enum TapeStep {
     // A note that is refused must be handed back.
     Note(Sample, Result<(), TapeFault>),
     // Each funnel line from this number on, below the second, is noted as seen.
@@ -32,13 +32,13 @@ pub(crate) enum Step {
     // The debt of this number, if there is one, is returned with that number.
     Debt(u64, Result<Option<u64>, TapeFault>),
     // The same for a line of a backlog file.
-    DebtFrom(Line, Result<Option<Line>, TapeFault>),
+    DebtFrom(SourceLine, Result<Option<SourceLine>, TapeFault>),
     Octets(u64, Option<u64>),
     Owes(u64, bool),
     IsBroken(bool),
     // What is owed is these lines of the funnel.
     Numbers(&'static [u64]),
-    Keys(&'static [Line]),
+    Keys(&'static [SourceLine]),
     Mark(u64),
     Closed(u32),
     ImportMark(u64),
@@ -125,7 +125,7 @@ pub(crate) fn rotate<D: Disk>(tape: &mut Tape<D>) -> Result<Result<u64, TapeFaul
 }
 
 // The line of a debt, which must have the texts of each debt here.
-fn line_of(debt: &Debt) -> Result<Line, Fail> {
+fn line_of(debt: &Debt) -> Result<SourceLine, Fail> {
     if texts(debt.token(), debt.id()) == TEXTS {
         Ok((debt.key().source(), debt.key().number()))
     } else {
@@ -133,7 +133,10 @@ fn line_of(debt: &Debt) -> Result<Line, Fail> {
     }
 }
 
-fn debt_of<D: Disk>(tape: &mut Tape<D>, key: Key) -> Result<Result<Option<Line>, TapeFault>, Fail> {
+fn debt_of<D: Disk>(
+    tape: &mut Tape<D>,
+    key: Key,
+) -> Result<Result<Option<SourceLine>, TapeFault>, Fail> {
     match tape.debt(key) {
         Ok(Some(debt)) => Ok(Ok(Some(line_of(&debt)?))),
         Ok(None) => Ok(Ok(None)),
@@ -166,38 +169,38 @@ fn take<A: Abort, D: Disk>(
     alloc: Global,
     tape: &mut Tape<D>,
     at: usize,
-    step: Step,
+    step: TapeStep,
 ) -> Result<(), Fail> {
     match step {
-        Step::Note(sample, want) => assert_answer(rt, at, &note(alloc, tape, sample)?, &want),
-        Step::SeenEach(first, behind) => see_each(tape, first, behind)?,
-        Step::OweEach(first, behind) => owe_each(alloc, tape, first, behind)?,
-        Step::EndEach(first, behind) => end_each(alloc, tape, first, behind)?,
-        Step::DropAll(numbers, want) => {
+        TapeStep::Note(sample, want) => assert_answer(rt, at, &note(alloc, tape, sample)?, &want),
+        TapeStep::SeenEach(first, behind) => see_each(tape, first, behind)?,
+        TapeStep::OweEach(first, behind) => owe_each(alloc, tape, first, behind)?,
+        TapeStep::EndEach(first, behind) => end_each(alloc, tape, first, behind)?,
+        TapeStep::DropAll(numbers, want) => {
             assert_answer(rt, at, &drop_all(alloc, tape, numbers)?, &want)
         }
-        Step::Flush(want) => assert_answer(rt, at, &flush(tape)?, &want),
-        Step::FlushOf(place, count) => assert_answer(rt, at, &flush_of(tape)?, &(place, count)),
-        Step::Flushed(want) => assert_answer(rt, at, &tape.flushed(), &want),
-        Step::Placed(place) => tape.placed(place),
-        Step::Place(want) => assert_answer(rt, at, &tape.place(), &want),
-        Step::Rotate(want) => assert_answer(rt, at, &rotate(tape)?, &want),
-        Step::RotateDue(want) => assert_answer(rt, at, &tape.rotate_due(), &want),
-        Step::Debt(number, want) => assert_answer(rt, at, &told(tape, number)?, &want),
-        Step::DebtFrom((source, number), want) => {
+        TapeStep::Flush(want) => assert_answer(rt, at, &flush(tape)?, &want),
+        TapeStep::FlushOf(place, count) => assert_answer(rt, at, &flush_of(tape)?, &(place, count)),
+        TapeStep::Flushed(want) => assert_answer(rt, at, &tape.flushed(), &want),
+        TapeStep::Placed(place) => tape.placed(place),
+        TapeStep::Place(want) => assert_answer(rt, at, &tape.place(), &want),
+        TapeStep::Rotate(want) => assert_answer(rt, at, &rotate(tape)?, &want),
+        TapeStep::RotateDue(want) => assert_answer(rt, at, &tape.rotate_due(), &want),
+        TapeStep::Debt(number, want) => assert_answer(rt, at, &told(tape, number)?, &want),
+        TapeStep::DebtFrom((source, number), want) => {
             let key = Key::new(source, number);
             assert_answer(rt, at, &debt_of(tape, key)?, &want)
         }
-        Step::Octets(number, want) => assert_answer(rt, at, &tape.octets(line(number)), &want),
-        Step::Owes(number, want) => assert_answer(rt, at, &tape.owes(line(number)), &want),
-        Step::IsBroken(want) => assert_answer(rt, at, &tape.is_broken(), &want),
-        Step::Numbers(want) => assert_owed(rt, at, tape, &lines(alloc, want)?)?,
-        Step::Keys(want) => assert_owed(rt, at, tape, &keys_of(alloc, want)?)?,
-        Step::Mark(want) => assert_answer(rt, at, &tape.mark(), &want),
-        Step::Closed(want) => assert_answer(rt, at, &tape.closed(), &want),
-        Step::ImportMark(want) => assert_answer(rt, at, &tape.import_mark(), &want),
-        Step::Totals(want) => assert_answer(rt, at, &tape.totals(), &want),
-        Step::Room(want) => assert_answer(rt, at, &tape.room(), &want),
+        TapeStep::Octets(number, want) => assert_answer(rt, at, &tape.octets(line(number)), &want),
+        TapeStep::Owes(number, want) => assert_answer(rt, at, &tape.owes(line(number)), &want),
+        TapeStep::IsBroken(want) => assert_answer(rt, at, &tape.is_broken(), &want),
+        TapeStep::Numbers(want) => assert_owed(rt, at, tape, &lines(alloc, want)?)?,
+        TapeStep::Keys(want) => assert_owed(rt, at, tape, &keys_of(alloc, want)?)?,
+        TapeStep::Mark(want) => assert_answer(rt, at, &tape.mark(), &want),
+        TapeStep::Closed(want) => assert_answer(rt, at, &tape.closed(), &want),
+        TapeStep::ImportMark(want) => assert_answer(rt, at, &tape.import_mark(), &want),
+        TapeStep::Totals(want) => assert_answer(rt, at, &tape.totals(), &want),
+        TapeStep::Room(want) => assert_answer(rt, at, &tape.room(), &want),
     }
     Ok(())
 }
@@ -221,7 +224,7 @@ pub(crate) fn play<A: Abort, D: Disk + Drop>(
     rt: &A,
     alloc: Global,
     mut tape: Tape<D>,
-    steps: &[Step],
+    steps: &[TapeStep],
 ) -> Result<(D, D), Fail> {
     for (at, step) in steps.iter().enumerate() {
         take(rt, alloc, &mut tape, at, *step)?;
@@ -233,7 +236,7 @@ pub(crate) fn run<A: Abort, D: Disk + Drop>(
     rt: &A,
     alloc: Global,
     disks: (D, D),
-    steps: &[Step],
+    steps: &[TapeStep],
 ) -> Result<(D, D), Fail> {
     match opened(alloc, disks) {
         Ok(tape) => play(rt, alloc, tape, steps),
@@ -245,7 +248,7 @@ pub(crate) fn run<A: Abort, D: Disk + Drop>(
 pub(crate) type Octets = (&'static [u8], &'static [u8]);
 
 // The steps at one opening of a tape, and what is on the disks then, if that is compared.
-pub(crate) type ReopenedTape = (&'static [Step], Option<Octets>);
+pub(crate) type ReopenedTape = (&'static [TapeStep], Option<Octets>);
 
 pub(crate) fn run_each<A: Abort, D: Disk + Drop>(
     rt: &A,

@@ -4,7 +4,7 @@ use crate::disks::{assert_both, assert_faults, beside_empty, disk_of, disks_of};
 use crate::planned_file::{Plan, PlannedFile};
 use crate::read_only::ReadOnly;
 use crate::samples::Sample;
-use crate::tape_steps::{ReopenedTape, Step, flush, note, opened, play, run, run_each};
+use crate::tape_steps::{ReopenedTape, TapeStep, flush, note, opened, play, run, run_each};
 use disk_model::{Choice, Disk, FileDisk, FlakyDisk, FuseDisk, MemDisk};
 use ledger_core::{LedgerFault, Totals};
 use recovery::{TapeFault, tape_once};
@@ -43,22 +43,22 @@ const SCRIPTS: &[(&[u8], &[ReopenedTape])] = &[
         &[
             (
                 &[
-                    Step::Note(Sample::Owe(1), Ok(())),
-                    Step::Room(65535),
-                    Step::Flush(Ok(1)),
+                    TapeStep::Note(Sample::Owe(1), Ok(())),
+                    TapeStep::Room(65535),
+                    TapeStep::Flush(Ok(1)),
                 ],
                 Some((&OWED, &[])),
             ),
             (
                 &[
-                    Step::Mark(1),
-                    Step::Owes(1, true),
-                    Step::Owes(2, false),
-                    Step::Numbers(&[1]),
-                    Step::Note(Sample::Final(1), Ok(())),
-                    Step::Flush(Ok(1)),
-                    Step::Flush(Ok(1)),
-                    Step::Totals(Totals {
+                    TapeStep::Mark(1),
+                    TapeStep::Owes(1, true),
+                    TapeStep::Owes(2, false),
+                    TapeStep::Numbers(&[1]),
+                    TapeStep::Note(Sample::Final(1), Ok(())),
+                    TapeStep::Flush(Ok(1)),
+                    TapeStep::Flush(Ok(1)),
+                    TapeStep::Totals(Totals {
                         taken: 1,
                         answered: 1,
                         dropped: 0,
@@ -68,7 +68,7 @@ const SCRIPTS: &[(&[u8], &[ReopenedTape])] = &[
                 ],
                 Some((&ANSWERED, &[])),
             ),
-            (&[Step::Mark(1)], Some((&ANSWERED, &[]))),
+            (&[TapeStep::Mark(1)], Some((&ANSWERED, &[]))),
         ],
     ),
     // A tape that is opened has no place. Once it is given one, each flush names it, and what was pending still is.
@@ -77,26 +77,30 @@ const SCRIPTS: &[(&[u8], &[ReopenedTape])] = &[
         &[
             (
                 &[
-                    Step::Place(None),
-                    Step::FlushOf(None, 0),
-                    Step::Note(Sample::Owe(1), Ok(())),
-                    Step::Placed(7),
-                    Step::Place(Some(7)),
-                    Step::Room(65535),
-                    Step::Flushed(0),
-                    Step::FlushOf(Some(7), 1),
-                    Step::Note(Sample::Final(1), Ok(())),
-                    Step::Flushed(1),
-                    Step::Rotate(Ok(1)),
-                    Step::Flushed(2),
-                    Step::Place(Some(7)),
-                    Step::Placed(8),
-                    Step::FlushOf(Some(8), 2),
+                    TapeStep::Place(None),
+                    TapeStep::FlushOf(None, 0),
+                    TapeStep::Note(Sample::Owe(1), Ok(())),
+                    TapeStep::Placed(7),
+                    TapeStep::Place(Some(7)),
+                    TapeStep::Room(65535),
+                    TapeStep::Flushed(0),
+                    TapeStep::FlushOf(Some(7), 1),
+                    TapeStep::Note(Sample::Final(1), Ok(())),
+                    TapeStep::Flushed(1),
+                    TapeStep::Rotate(Ok(1)),
+                    TapeStep::Flushed(2),
+                    TapeStep::Place(Some(7)),
+                    TapeStep::Placed(8),
+                    TapeStep::FlushOf(Some(8), 2),
                 ],
                 None,
             ),
             (
-                &[Step::Place(None), Step::Flushed(0), Step::FlushOf(None, 0)],
+                &[
+                    TapeStep::Place(None),
+                    TapeStep::Flushed(0),
+                    TapeStep::FlushOf(None, 0),
+                ],
                 None,
             ),
         ],
@@ -104,21 +108,24 @@ const SCRIPTS: &[(&[u8], &[ReopenedTape])] = &[
     // A debt is read.
     (
         &OWED,
-        &[(&[Step::Debt(1, Ok(Some(1))), Step::Debt(2, Ok(None))], None)],
+        &[(
+            &[TapeStep::Debt(1, Ok(Some(1))), TapeStep::Debt(2, Ok(None))],
+            None,
+        )],
     ),
     // A refused note is handed back.
     (
         &[],
         &[(
             &[
-                Step::SeenEach(1, 65537),
-                Step::Room(0),
-                Step::Note(Sample::Seen(65537), Err(TapeFault::PendingFull)),
-                Step::Note(Sample::Final(1), Err(NOT_OWED)),
-                Step::Note(Sample::Seen(1), Err(OLD_NUMBER)),
-                Step::Flush(Ok(65536)),
-                Step::Mark(65536),
-                Step::Room(65536),
+                TapeStep::SeenEach(1, 65537),
+                TapeStep::Room(0),
+                TapeStep::Note(Sample::Seen(65537), Err(TapeFault::PendingFull)),
+                TapeStep::Note(Sample::Final(1), Err(NOT_OWED)),
+                TapeStep::Note(Sample::Seen(1), Err(OLD_NUMBER)),
+                TapeStep::Flush(Ok(65536)),
+                TapeStep::Mark(65536),
+                TapeStep::Room(65536),
             ],
             None,
         )],
@@ -128,22 +135,22 @@ const SCRIPTS: &[(&[u8], &[ReopenedTape])] = &[
         &[],
         &[(
             &[
-                Step::Note(Sample::Owe(1), Ok(())),
-                Step::Note(Sample::Owe(2), Ok(())),
-                Step::Note(Sample::Owe(3), Ok(())),
-                Step::Flush(Ok(3)),
-                Step::Octets(1, Some(10)),
-                Step::Octets(3, Some(10)),
-                Step::Octets(0, None),
-                Step::Octets(4, None),
-                Step::Totals(Totals {
+                TapeStep::Note(Sample::Owe(1), Ok(())),
+                TapeStep::Note(Sample::Owe(2), Ok(())),
+                TapeStep::Note(Sample::Owe(3), Ok(())),
+                TapeStep::Flush(Ok(3)),
+                TapeStep::Octets(1, Some(10)),
+                TapeStep::Octets(3, Some(10)),
+                TapeStep::Octets(0, None),
+                TapeStep::Octets(4, None),
+                TapeStep::Totals(Totals {
                     taken: 3,
                     answered: 0,
                     dropped: 0,
                     owed: 3,
                     owed_bytes: 30,
                 }),
-                Step::IsBroken(false),
+                TapeStep::IsBroken(false),
             ],
             None,
         )],
@@ -154,25 +161,25 @@ const SCRIPTS: &[(&[u8], &[ReopenedTape])] = &[
         &[
             (
                 &[
-                    Step::Note(Sample::Owe(1), Ok(())),
-                    Step::Note(Sample::Owe(2), Ok(())),
-                    Step::Note(Sample::Owe(3), Ok(())),
-                    Step::Flush(Ok(3)),
-                    Step::DropAll(&[3, 1], Ok(())),
-                    Step::Numbers(&[2]),
-                    Step::Totals(Totals {
+                    TapeStep::Note(Sample::Owe(1), Ok(())),
+                    TapeStep::Note(Sample::Owe(2), Ok(())),
+                    TapeStep::Note(Sample::Owe(3), Ok(())),
+                    TapeStep::Flush(Ok(3)),
+                    TapeStep::DropAll(&[3, 1], Ok(())),
+                    TapeStep::Numbers(&[2]),
+                    TapeStep::Totals(Totals {
                         taken: 3,
                         answered: 0,
                         dropped: 2,
                         owed: 1,
                         owed_bytes: 10,
                     }),
-                    Step::Room(65534),
-                    Step::Flush(Ok(5)),
+                    TapeStep::Room(65534),
+                    TapeStep::Flush(Ok(5)),
                 ],
                 None,
             ),
-            (&[Step::Numbers(&[2])], None),
+            (&[TapeStep::Numbers(&[2])], None),
         ],
     ),
     // Debts are dropped all or none.
@@ -180,20 +187,20 @@ const SCRIPTS: &[(&[u8], &[ReopenedTape])] = &[
         &[],
         &[(
             &[
-                Step::Note(Sample::Owe(1), Ok(())),
-                Step::Note(Sample::Owe(2), Ok(())),
-                Step::Note(Sample::Owe(3), Ok(())),
-                Step::Flush(Ok(3)),
-                Step::DropAll(&[1, 4], Err(NOT_OWED)),
-                Step::DropAll(&[2, 1, 2], Err(NOT_OWED)),
-                Step::DropAll(&[], Ok(())),
-                Step::SeenEach(4, 65539),
-                Step::Room(1),
-                Step::DropAll(&[1, 2], Err(TapeFault::PendingFull)),
-                Step::DropAll(&[1, 1], Err(NOT_OWED)),
-                Step::Numbers(&[1, 2, 3]),
-                Step::DropAll(&[1], Ok(())),
-                Step::Room(0),
+                TapeStep::Note(Sample::Owe(1), Ok(())),
+                TapeStep::Note(Sample::Owe(2), Ok(())),
+                TapeStep::Note(Sample::Owe(3), Ok(())),
+                TapeStep::Flush(Ok(3)),
+                TapeStep::DropAll(&[1, 4], Err(NOT_OWED)),
+                TapeStep::DropAll(&[2, 1, 2], Err(NOT_OWED)),
+                TapeStep::DropAll(&[], Ok(())),
+                TapeStep::SeenEach(4, 65539),
+                TapeStep::Room(1),
+                TapeStep::DropAll(&[1, 2], Err(TapeFault::PendingFull)),
+                TapeStep::DropAll(&[1, 1], Err(NOT_OWED)),
+                TapeStep::Numbers(&[1, 2, 3]),
+                TapeStep::DropAll(&[1], Ok(())),
+                TapeStep::Room(0),
             ],
             None,
         )],
@@ -201,7 +208,7 @@ const SCRIPTS: &[(&[u8], &[ReopenedTape])] = &[
     // What a torn write left is cut off.
     (&TORN, &[(&[], Some((&OWED, &[])))]),
     // A gate that is the last octet ends a tape, whatever its value.
-    (&[0xa5], &[(&[Step::Mark(0)], Some((&[0], &[])))]),
+    (&[0xa5], &[(&[TapeStep::Mark(0)], Some((&[0], &[])))]),
 ];
 
 #[test]
@@ -407,31 +414,31 @@ fn a_failed_sync_breaks_the_tape(rt: HostRuntime) -> Result<(), Fail> {
     // The call of an empty first disk that fails, the last of the first flush, from 0; the steps, and those at the
     // next opening: what was broken drops nothing, and what was written is still owed. Opening takes five calls of
     // it, and a flush four, whether of one note or of a batch.
-    const ROWS: &[(u64, &[Step], &[Step])] = &[
+    const ROWS: &[(u64, &[TapeStep], &[TapeStep])] = &[
         (
             8,
             &[
-                Step::Note(Sample::Owe(1), Ok(())),
-                Step::Note(Sample::Owe(2), Ok(())),
-                Step::Note(Sample::Owe(3), Ok(())),
-                Step::Flush(Err(TapeFault::Disk)),
-                Step::Flush(Err(TapeFault::Broken)),
-                Step::Note(Sample::Final(1), Err(TapeFault::Broken)),
-                Step::Flush(Err(TapeFault::Broken)),
-                Step::Debt(1, Err(TapeFault::Broken)),
+                TapeStep::Note(Sample::Owe(1), Ok(())),
+                TapeStep::Note(Sample::Owe(2), Ok(())),
+                TapeStep::Note(Sample::Owe(3), Ok(())),
+                TapeStep::Flush(Err(TapeFault::Disk)),
+                TapeStep::Flush(Err(TapeFault::Broken)),
+                TapeStep::Note(Sample::Final(1), Err(TapeFault::Broken)),
+                TapeStep::Flush(Err(TapeFault::Broken)),
+                TapeStep::Debt(1, Err(TapeFault::Broken)),
             ],
-            &[Step::Numbers(&[1, 2, 3])],
+            &[TapeStep::Numbers(&[1, 2, 3])],
         ),
         (
             8,
             &[
-                Step::Note(Sample::Owe(1), Ok(())),
-                Step::Flush(Err(TapeFault::Disk)),
-                Step::IsBroken(true),
-                Step::DropAll(&[2], Err(TapeFault::Broken)),
-                Step::Octets(1, Some(10)),
+                TapeStep::Note(Sample::Owe(1), Ok(())),
+                TapeStep::Flush(Err(TapeFault::Disk)),
+                TapeStep::IsBroken(true),
+                TapeStep::DropAll(&[2], Err(TapeFault::Broken)),
+                TapeStep::Octets(1, Some(10)),
             ],
-            &[Step::Numbers(&[1])],
+            &[TapeStep::Numbers(&[1])],
         ),
     ];
     for (at, (calls, steps, kept)) in ROWS.iter().enumerate() {
@@ -446,11 +453,11 @@ fn a_failed_sync_breaks_the_tape(rt: HostRuntime) -> Result<(), Fail> {
 // How many calls pass on the first disk of a tape, and how many on the second: on one, those before the call that
 // fails; on the other, all that are made. Since a tape makes no call once one has failed, each stop is one of the
 // two.
-pub(crate) type Calls = (u64, u64);
+pub(crate) type CallsLeft = (u64, u64);
 
 pub(crate) fn fused(
     (a, b): (MemDisk, MemDisk),
-    (first, second): Calls,
+    (first, second): CallsLeft,
 ) -> (FuseDisk<MemDisk>, FuseDisk<MemDisk>) {
     (FuseDisk::new(a, first), FuseDisk::new(b, second))
 }
@@ -461,7 +468,7 @@ pub(crate) fn unfused((a, b): (FuseDisk<MemDisk>, FuseDisk<MemDisk>)) -> (MemDis
 
 pub(crate) fn flaky(
     (a, b): (MemDisk, MemDisk),
-    (first, second): Calls,
+    (first, second): CallsLeft,
 ) -> (FlakyDisk<MemDisk>, FlakyDisk<MemDisk>) {
     (FlakyDisk::new(a, first), FlakyDisk::new(b, second))
 }
@@ -472,8 +479,8 @@ pub(crate) fn stopped<A: Abort>(
     rt: &A,
     alloc: Global,
     disks: (MemDisk, MemDisk),
-    calls: Calls,
-    steps: &[Step],
+    calls: CallsLeft,
+    steps: &[TapeStep],
 ) -> Result<(MemDisk, MemDisk), Fail> {
     match opened(alloc, fused(disks, calls)) {
         Ok(tape) => Ok(unfused(play(rt, alloc, tape, steps)?)),
@@ -483,7 +490,7 @@ pub(crate) fn stopped<A: Abort>(
 }
 
 // How many debts there are, at least and at most.
-pub(crate) type Counts = (u64, u64);
+pub(crate) type DebtRange = (u64, u64);
 
 // The octet that fills what was not written, for each choice of which of three operations happened.
 pub(crate) const FILLS: [u8; 24] = [
@@ -505,7 +512,7 @@ pub(crate) fn assert_prefixes<A: Abort>(
     rt: &A,
     alloc: Global,
     disks: &(MemDisk, MemDisk),
-    (least, most): Counts,
+    (least, most): DebtRange,
 ) -> Result<(), Fail> {
     for (at, fill) in FILLS.iter().enumerate() {
         let mark = prefix_of(alloc, image(disks, (at % 8) as u64, *fill)?)??;
@@ -521,8 +528,8 @@ fn assert_stops<A: Abort>(
     alloc: Global,
     octets: &[u8],
     calls: Range<u64>,
-    steps: &[Step],
-    counts: Counts,
+    steps: &[TapeStep],
+    counts: DebtRange,
 ) -> Result<(), Fail> {
     for calls in calls {
         let disks = disks_of(alloc, (octets, &[]))?;
@@ -536,28 +543,28 @@ fn assert_stops<A: Abort>(
 // note or of a batch: a write, a sync, a write for the gate and a sync.
 #[test]
 fn a_stop_leaves_a_prefix(rt: HostRuntime) -> Result<(), Fail> {
-    const FIRST: &[Step] = &[
-        Step::Note(Sample::Owe(1), Ok(())),
-        Step::Note(Sample::Owe(2), Ok(())),
-        Step::Flush(Err(TapeFault::Disk)),
+    const FIRST: &[TapeStep] = &[
+        TapeStep::Note(Sample::Owe(1), Ok(())),
+        TapeStep::Note(Sample::Owe(2), Ok(())),
+        TapeStep::Flush(Err(TapeFault::Disk)),
     ];
-    const SECOND: &[Step] = &[
-        Step::Note(Sample::Owe(1), Ok(())),
-        Step::Note(Sample::Owe(2), Ok(())),
-        Step::Flush(Ok(2)),
-        Step::Note(Sample::Owe(3), Ok(())),
-        Step::Flush(Err(TapeFault::Disk)),
+    const SECOND: &[TapeStep] = &[
+        TapeStep::Note(Sample::Owe(1), Ok(())),
+        TapeStep::Note(Sample::Owe(2), Ok(())),
+        TapeStep::Flush(Ok(2)),
+        TapeStep::Note(Sample::Owe(3), Ok(())),
+        TapeStep::Flush(Err(TapeFault::Disk)),
     ];
-    const NEITHER: &[Step] = &[
-        Step::Note(Sample::Owe(1), Ok(())),
-        Step::Note(Sample::Owe(2), Ok(())),
-        Step::Flush(Ok(2)),
-        Step::Note(Sample::Owe(3), Ok(())),
-        Step::Flush(Ok(3)),
+    const NEITHER: &[TapeStep] = &[
+        TapeStep::Note(Sample::Owe(1), Ok(())),
+        TapeStep::Note(Sample::Owe(2), Ok(())),
+        TapeStep::Flush(Ok(2)),
+        TapeStep::Note(Sample::Owe(3), Ok(())),
+        TapeStep::Flush(Ok(3)),
     ];
     // What is on the first disk, its stops from this call on, below the second, the steps, and how many debts are
     // left. The last is of an opening that cuts off what a torn write left, and reads three times first.
-    const STOPS: &[(&[u8], u64, u64, &[Step], Counts)] = &[
+    const STOPS: &[(&[u8], u64, u64, &[TapeStep], DebtRange)] = &[
         (&[], 0, 5, &[], (0, 0)),
         (&[], 5, 9, FIRST, (0, 2)),
         (&[], 9, 13, SECOND, (2, 3)),
@@ -573,7 +580,7 @@ fn a_stop_leaves_a_prefix(rt: HostRuntime) -> Result<(), Fail> {
 // The second disk is synced, by its only call, before the first is repaired.
 #[test]
 fn a_stop_before_the_repair_leaves_the_tape(rt: HostRuntime) -> Result<(), Fail> {
-    const ROWS: &[(&[u8], Counts)] = &[(&[], (0, 0)), (&OWED, (1, 1)), (&TORN, (1, 1))];
+    const ROWS: &[(&[u8], DebtRange)] = &[(&[], (0, 0)), (&OWED, (1, 1)), (&TORN, (1, 1))];
     for (octets, counts) in ROWS {
         let disks = disks_of(rt.alloc(), (octets, &[]))?;
         let disks = stopped(&rt, rt.alloc(), disks, (u64::MAX, 0), &[])?;

@@ -1,6 +1,6 @@
 // Numbers that wait for a moment, and how long a place is left alone after it failed.
 use crate::answers::assert_answer;
-use crate::samples::{Line, line};
+use crate::samples::{SourceLine, line};
 use deferral::{Backoff, Later};
 use ledger_core::Key;
 use std::alloc::{AllocError, Global};
@@ -10,7 +10,7 @@ use std::test::Fail;
 
 // What is done to the numbers that wait, or asked of them, and the wanted answer.
 #[derive(Clone, Copy)]
-enum Step {
+enum WaitStep {
     // From now on this number waits for this moment, unless it waits already.
     Put(u64, u64),
     // From now on it waits for this moment or for none, if it waits.
@@ -36,7 +36,7 @@ fn put(later: &mut Later, key: Key, due: u64) -> Result<(), AllocError> {
     later.put(key, due)
 }
 
-fn line_of(key: Option<Key>) -> Option<Line> {
+fn line_of(key: Option<Key>) -> Option<SourceLine> {
     match key {
         Some(key) => Some((key.source(), key.number())),
         None => None,
@@ -51,21 +51,36 @@ fn number_of(key: Option<Key>) -> Option<u64> {
     }
 }
 
-fn take<A: Abort>(rt: &A, later: &mut Later, at: usize, step: Step) -> Result<(), Fail> {
+fn take<A: Abort>(rt: &A, later: &mut Later, at: usize, step: WaitStep) -> Result<(), Fail> {
     match step {
-        Step::Put(number, due) => put(later, line(number), due)?,
-        Step::Set(number, due, want) => assert_answer(rt, at, &later.set(line(number), due), &want),
-        Step::Remove(number, want) => assert_answer(rt, at, &later.remove(line(number)), &want),
-        Step::Contains(number, want) => assert_answer(rt, at, &later.contains(line(number)), &want),
-        Step::DueLeast(now, want) => assert_answer(rt, at, &number_of(later.due_least(now)), &want),
-        Step::DueFrom(first, now, want) => {
+        WaitStep::Put(number, due) => put(later, line(number), due)?,
+        WaitStep::Set(number, due, want) => assert_answer(
+            rt,
+            at,
+            &later.set(line(number), due),
+            &want,
+        ),
+        WaitStep::Remove(number, want) => assert_answer(rt, at, &later.remove(line(number)), &want),
+        WaitStep::Contains(number, want) => assert_answer(
+            rt,
+            at,
+            &later.contains(line(number)),
+            &want,
+        ),
+        WaitStep::DueLeast(now, want) => assert_answer(
+            rt,
+            at,
+            &number_of(later.due_least(now)),
+            &want,
+        ),
+        WaitStep::DueFrom(first, now, want) => {
             assert_answer(rt, at, &number_of(later.due_from(line(first), now)), &want)
         }
     }
     Ok(())
 }
 
-fn play<A: Abort>(rt: &A, later: &mut Later, steps: &[Step]) -> Result<(), Fail> {
+fn play<A: Abort>(rt: &A, later: &mut Later, steps: &[WaitStep]) -> Result<(), Fail> {
     for (at, step) in steps.iter().enumerate() {
         take(rt, later, at, *step)?;
     }
@@ -73,7 +88,7 @@ fn play<A: Abort>(rt: &A, later: &mut Later, steps: &[Step]) -> Result<(), Fail>
 }
 
 // Nothing waits at first.
-fn run<A: Abort>(rt: &A, alloc: Global, steps: &[Step]) -> Result<(), Fail> {
+fn run<A: Abort>(rt: &A, alloc: Global, steps: &[WaitStep]) -> Result<(), Fail> {
     play(rt, &mut Later::new(alloc), steps)
 }
 
@@ -95,77 +110,77 @@ fn assert_waits<A: Abort>(rt: &A, mut backoff: Backoff, tries: &[(Try, u64)]) {
 
 #[test]
 fn numbers_wait_for_their_moments(rt: HostRuntime) -> Result<(), Fail> {
-    const SCRIPTS: &[&[Step]] = &[
+    const SCRIPTS: &[&[WaitStep]] = &[
         // Due at its moment.
         &[
-            Step::Contains(1, false),
-            Step::Put(1, 160),
-            Step::Contains(1, true),
-            Step::DueLeast(159, None),
-            Step::DueLeast(160, Some(1)),
+            WaitStep::Contains(1, false),
+            WaitStep::Put(1, 160),
+            WaitStep::Contains(1, true),
+            WaitStep::DueLeast(159, None),
+            WaitStep::DueLeast(160, Some(1)),
         ],
         // The least number, and not the one of the earliest moment.
         &[
-            Step::Put(5, 10),
-            Step::Put(3, 20),
-            Step::DueLeast(9, None),
-            Step::DueLeast(15, Some(5)),
-            Step::DueLeast(20, Some(3)),
-            Step::DueLeast(15, Some(5)),
+            WaitStep::Put(5, 10),
+            WaitStep::Put(3, 20),
+            WaitStep::DueLeast(9, None),
+            WaitStep::DueLeast(15, Some(5)),
+            WaitStep::DueLeast(20, Some(3)),
+            WaitStep::DueLeast(15, Some(5)),
         ],
         // It no longer waits once it is removed.
         &[
-            Step::Remove(5, false),
-            Step::Put(5, 10),
-            Step::Put(3, 20),
-            Step::Put(u64::MAX, 0),
-            Step::Remove(4, false),
-            Step::Remove(5, true),
-            Step::Remove(5, false),
-            Step::Contains(5, false),
-            Step::DueLeast(15, Some(u64::MAX)),
-            Step::DueLeast(20, Some(3)),
-            Step::Remove(3, true),
-            Step::Remove(u64::MAX, true),
-            Step::DueLeast(u64::MAX, None),
+            WaitStep::Remove(5, false),
+            WaitStep::Put(5, 10),
+            WaitStep::Put(3, 20),
+            WaitStep::Put(u64::MAX, 0),
+            WaitStep::Remove(4, false),
+            WaitStep::Remove(5, true),
+            WaitStep::Remove(5, false),
+            WaitStep::Contains(5, false),
+            WaitStep::DueLeast(15, Some(u64::MAX)),
+            WaitStep::DueLeast(20, Some(3)),
+            WaitStep::Remove(3, true),
+            WaitStep::Remove(u64::MAX, true),
+            WaitStep::DueLeast(u64::MAX, None),
         ],
         // Due at no moment until one is set.
         &[
-            Step::Set(7, None, false),
-            Step::Put(7, 10),
-            Step::Set(8, Some(0), false),
-            Step::Contains(8, false),
-            Step::Set(7, None, true),
-            Step::Contains(7, true),
-            Step::DueLeast(u64::MAX, None),
-            Step::Put(9, u64::MAX),
-            Step::DueLeast(u64::MAX - 1, None),
-            Step::DueLeast(u64::MAX, Some(9)),
-            Step::Set(7, Some(20), true),
-            Step::DueLeast(19, None),
-            Step::DueLeast(20, Some(7)),
-            Step::Set(9, None, true),
-            Step::Remove(7, true),
-            Step::DueLeast(u64::MAX, None),
-            Step::Remove(9, true),
-            Step::Set(9, Some(0), false),
+            WaitStep::Set(7, None, false),
+            WaitStep::Put(7, 10),
+            WaitStep::Set(8, Some(0), false),
+            WaitStep::Contains(8, false),
+            WaitStep::Set(7, None, true),
+            WaitStep::Contains(7, true),
+            WaitStep::DueLeast(u64::MAX, None),
+            WaitStep::Put(9, u64::MAX),
+            WaitStep::DueLeast(u64::MAX - 1, None),
+            WaitStep::DueLeast(u64::MAX, Some(9)),
+            WaitStep::Set(7, Some(20), true),
+            WaitStep::DueLeast(19, None),
+            WaitStep::DueLeast(20, Some(7)),
+            WaitStep::Set(9, None, true),
+            WaitStep::Remove(7, true),
+            WaitStep::DueLeast(u64::MAX, None),
+            WaitStep::Remove(9, true),
+            WaitStep::Set(9, Some(0), false),
         ],
         // The least from a number on.
         &[
-            Step::DueFrom(0, u64::MAX, None),
-            Step::Put(3, 10),
-            Step::Put(5, 10),
-            Step::Put(6, 10),
-            Step::Put(u64::MAX, 10),
-            Step::Set(6, None, true),
-            Step::DueFrom(0, 10, Some(3)),
-            Step::DueFrom(3, 10, Some(3)),
-            Step::DueFrom(4, 10, Some(5)),
-            Step::DueFrom(6, 10, Some(u64::MAX)),
-            Step::DueFrom(u64::MAX, 10, Some(u64::MAX)),
-            Step::DueFrom(4, 9, None),
-            Step::Remove(u64::MAX, true),
-            Step::DueFrom(6, 10, None),
+            WaitStep::DueFrom(0, u64::MAX, None),
+            WaitStep::Put(3, 10),
+            WaitStep::Put(5, 10),
+            WaitStep::Put(6, 10),
+            WaitStep::Put(u64::MAX, 10),
+            WaitStep::Set(6, None, true),
+            WaitStep::DueFrom(0, 10, Some(3)),
+            WaitStep::DueFrom(3, 10, Some(3)),
+            WaitStep::DueFrom(4, 10, Some(5)),
+            WaitStep::DueFrom(6, 10, Some(u64::MAX)),
+            WaitStep::DueFrom(u64::MAX, 10, Some(u64::MAX)),
+            WaitStep::DueFrom(4, 9, None),
+            WaitStep::Remove(u64::MAX, true),
+            WaitStep::DueFrom(6, 10, None),
         ],
     ];
     for steps in SCRIPTS {
@@ -181,7 +196,7 @@ fn sources_wait_in_their_order(rt: HostRuntime) -> Result<(), Fail> {
     for (source, number) in [(1, 5), (2, 1), (0, 9), (1, 7)] {
         put(&mut later, Key::new(source, number), 10)?;
     }
-    const ROWS: &[(Line, Option<Line>)] = &[
+    const ROWS: &[(SourceLine, Option<SourceLine>)] = &[
         ((0, 0), Some((0, 9))),
         ((0, 10), Some((1, 5))),
         ((1, 6), Some((1, 7))),
@@ -210,18 +225,22 @@ fn plain_least(plain: &BTreeMap<u64, Option<u64>>, first: u64, now: u64) -> Opti
 
 /// Puts or removes a number in the plain map, or gives it another moment or none: returns the step, with the answer
 /// of the plain map.
-fn change(plain: &mut BTreeMap<u64, Option<u64>>, number: u64, random: u64) -> Result<Step, Fail> {
+fn change(
+    plain: &mut BTreeMap<u64, Option<u64>>,
+    number: u64,
+    random: u64,
+) -> Result<WaitStep, Fail> {
     let due = random >> 20 & 63;
     if random >> 8 & 3 == 0 {
-        return Ok(Step::Remove(number, plain.remove(&number).is_some()));
+        return Ok(WaitStep::Remove(number, plain.remove(&number).is_some()));
     }
     if !plain.contains_key(&number) {
         plain.insert(number, Some(due))?;
-        return Ok(Step::Put(number, due));
+        return Ok(WaitStep::Put(number, due));
     }
     let moment = if due % 4 == 0 { None } else { Some(due) };
     plain.insert(number, moment)?;
-    Ok(Step::Set(number, moment, true))
+    Ok(WaitStep::Set(number, moment, true))
 }
 
 /// One step of the mix: a number is put, removed or given another moment or none, and the least number that is due is
@@ -241,9 +260,9 @@ fn mix_once(
         later,
         &[
             changed,
-            Step::Contains(number, plain.contains_key(&number)),
-            Step::DueLeast(now, plain_least(plain, 0, now)),
-            Step::DueFrom(first, now, plain_least(plain, first, now)),
+            WaitStep::Contains(number, plain.contains_key(&number)),
+            WaitStep::DueLeast(now, plain_least(plain, 0, now)),
+            WaitStep::DueFrom(first, now, plain_least(plain, first, now)),
         ],
     )
 }

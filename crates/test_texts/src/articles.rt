@@ -11,7 +11,7 @@ use std::test::Fail;
 
 // A call of a store with a token.
 #[derive(Clone, Copy)]
-enum Call {
+enum StoreCall {
     Insert(&'static [u8]),
     Remove,
     Fetch,
@@ -68,11 +68,11 @@ fn put_answer(
     told: &mut Vec<u8>,
     store: &mut MemArticles,
     token: &Token,
-    call: Call,
+    call: StoreCall,
 ) -> Result<(), AllocError> {
     match call {
-        Call::Insert(text) => store.insert(token, Bytes::from_static(text)),
-        Call::Remove => put(
+        StoreCall::Insert(text) => store.insert(token, Bytes::from_static(text)),
+        StoreCall::Remove => put(
             told,
             if store.remove(token) {
                 b"removed"
@@ -80,9 +80,9 @@ fn put_answer(
                 b"nothing"
             },
         ),
-        Call::Fetch => put_found(told, store.fetch(token)),
-        Call::HandOut => put_handed_out(told, handed_out(store, token)),
-        Call::HandOutBroken => put_handed_out(told, handed_out(&mut BrokenDisk, token)),
+        StoreCall::Fetch => put_found(told, store.fetch(token)),
+        StoreCall::HandOut => put_handed_out(told, handed_out(store, token)),
+        StoreCall::HandOutBroken => put_handed_out(told, handed_out(&mut BrokenDisk, token)),
     }
 }
 
@@ -91,7 +91,7 @@ fn answer(
     alloc: Global,
     store: &mut MemArticles,
     token: &[u8],
-    call: Call,
+    call: StoreCall,
 ) -> Result<Vec<u8>, Fail> {
     let token = Token::read(alloc, token)?.ok_or("a token")?;
     let mut told = Vec::new(alloc);
@@ -102,24 +102,24 @@ fn answer(
 #[test]
 fn texts_stand_under_their_tokens(rt: HostRuntime) -> Result<(), Fail> {
     let mut store = MemArticles::new(rt.alloc());
-    let rows: [(&[u8], Call, &[u8]); 16] = [
-        (b"a/1", Call::Fetch, b"gone|"),
-        (b"a/1", Call::Remove, b"nothing|"),
-        (b"a/1", Call::Insert(b"one\n"), b""),
-        (b"a/1", Call::Insert(b"two\n"), b""),
-        (b"a/1", Call::HandOut, b"two\n|"),
-        (b"a/1", Call::HandOut, b"two\n|"),
-        (b"a/2", Call::Fetch, b"gone|"),
-        (b"a/1", Call::Remove, b"removed|"),
-        (b"a/1", Call::Fetch, b"gone|"),
+    let rows: [(&[u8], StoreCall, &[u8]); 16] = [
+        (b"a/1", StoreCall::Fetch, b"gone|"),
+        (b"a/1", StoreCall::Remove, b"nothing|"),
+        (b"a/1", StoreCall::Insert(b"one\n"), b""),
+        (b"a/1", StoreCall::Insert(b"two\n"), b""),
+        (b"a/1", StoreCall::HandOut, b"two\n|"),
+        (b"a/1", StoreCall::HandOut, b"two\n|"),
+        (b"a/2", StoreCall::Fetch, b"gone|"),
+        (b"a/1", StoreCall::Remove, b"removed|"),
+        (b"a/1", StoreCall::Fetch, b"gone|"),
         // Texts without a written form are not handed out.
-        (b"a/1", Call::Insert(b""), b""),
-        (b"a/1", Call::Fetch, b"unsendable|"),
-        (b"a/1", Call::HandOut, b"none|"),
-        (b"a/1", Call::Insert(b"a\0"), b""),
-        (b"a/1", Call::Fetch, b"unsendable|"),
-        (b"a/1", Call::HandOut, b"none|"),
-        (b"a/1", Call::HandOutBroken, b"Disk|"),
+        (b"a/1", StoreCall::Insert(b""), b""),
+        (b"a/1", StoreCall::Fetch, b"unsendable|"),
+        (b"a/1", StoreCall::HandOut, b"none|"),
+        (b"a/1", StoreCall::Insert(b"a\0"), b""),
+        (b"a/1", StoreCall::Fetch, b"unsendable|"),
+        (b"a/1", StoreCall::HandOut, b"none|"),
+        (b"a/1", StoreCall::HandOutBroken, b"Disk|"),
     ];
     for (token, call, want) in rows {
         assert_told(&rt, &answer(rt.alloc(), &mut store, token, call)?, want);

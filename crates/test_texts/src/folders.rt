@@ -1,5 +1,5 @@
 // Articles that are read from files: the crate article_store, over readers in memory.
-use crate::octets::{Long, assert_told, long, put};
+use crate::octets::{LongText, assert_told, long, put};
 use article_store::{Found, read_article};
 use std::alloc::{AllocError, Global};
 use std::io::{self, ErrorKind, Read};
@@ -65,7 +65,7 @@ fn put_count(told: &mut Vec<u8>, count: usize) -> Result<(), AllocError> {
 fn read_of(
     alloc: Global,
     buffer: &mut Vec<u8>,
-    text: Long,
+    text: LongText,
     piece: usize,
     end: Option<ErrorKind>,
 ) -> Result<Vec<u8>, AllocError> {
@@ -85,7 +85,7 @@ fn read_of(
 #[test]
 fn whole_texts_are_articles(rt: HostRuntime) -> Result<(), Fail> {
     let mut buffer = Vec::new(rt.alloc());
-    let rows: [(Long, usize, Option<ErrorKind>, &[u8]); 16] = [
+    let rows: [(LongText, usize, Option<ErrorKind>, &[u8]); 16] = [
         // Short pieces: a short read does not mean the end.
         ((b"a\r\nb\n", 0, 0, b""), 1, None, b"a\r\nb\n|0|"),
         ((b"", b'x', 65_536, b""), 70_000, None, b"65536|0|"),

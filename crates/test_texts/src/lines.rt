@@ -1,5 +1,5 @@
 // Names, lines, words, and the lines of a stream: the crate funnel.
-use crate::octets::{Long, assert_told, long, put, put_printed};
+use crate::octets::{LongText, assert_told, long, put, put_printed};
 use funnel::{
     FunnelLine, LineCutter, LineFault, MsgId, PeerName, Token, next_word, read_line, without_cr,
 };
@@ -44,7 +44,7 @@ fn lines_are_read(rt: HostRuntime) -> Result<(), Fail> {
 // Lines of 8,192 octets, a CR among them, and of one octet more; and a message-id of 251.
 #[test]
 fn long_lines_are_read(rt: HostRuntime) -> Result<(), Fail> {
-    let rows: [(Long, &[u8]); 6] = [
+    let rows: [(LongText, &[u8]); 6] = [
         ((b"a/1 <x@y>", b' ', 8182, b"\r"), b"a/1|<x@y>|"),
         ((b"a/1 <x@y>", b' ', 8183, b"\r"), b"TooLong|"),
         ((b"", b'a', 8192, b""), b"BadToken|"),
@@ -75,24 +75,24 @@ fn lines_name_peers(rt: HostRuntime) {
 }
 
 #[derive(Clone, Copy)]
-enum Form {
+enum LineForm {
     Id,
     Token,
     Peer,
 }
 
 // A copy of the name of this form that the octets are; empty if they are not one.
-fn name_told(alloc: Global, form: Form, octets: &[u8]) -> Result<Vec<u8>, AllocError> {
+fn name_told(alloc: Global, form: LineForm, octets: &[u8]) -> Result<Vec<u8>, AllocError> {
     match form {
-        Form::Id => match MsgId::read(alloc, octets)? {
+        LineForm::Id => match MsgId::read(alloc, octets)? {
             Some(id) => Vec::from_slice(alloc, id.clone()?.bytes()),
             None => Ok(Vec::new(alloc)),
         },
-        Form::Token => match Token::read(alloc, octets)? {
+        LineForm::Token => match Token::read(alloc, octets)? {
             Some(token) => Vec::from_slice(alloc, token.clone()?.bytes()),
             None => Ok(Vec::new(alloc)),
         },
-        Form::Peer => match PeerName::read(alloc, octets)? {
+        LineForm::Peer => match PeerName::read(alloc, octets)? {
             Some(peer) => Vec::from_slice(alloc, peer.clone()?.bytes()),
             None => Ok(Vec::new(alloc)),
         },
@@ -101,13 +101,13 @@ fn name_told(alloc: Global, form: Form, octets: &[u8]) -> Result<Vec<u8>, AllocE
 
 #[test]
 fn names_are_read(rt: HostRuntime) -> Result<(), Fail> {
-    let rows: [(Form, &[u8], &[u8]); 6] = [
-        (Form::Id, b"<x@y>", b"<x@y>"),
-        (Form::Id, b"<>", b""),
-        (Form::Token, b"a/1", b"a/1"),
-        (Form::Token, b"a/../b", b""),
-        (Form::Peer, b"one.example", b"one.example"),
-        (Form::Peer, b".x", b""),
+    let rows: [(LineForm, &[u8], &[u8]); 6] = [
+        (LineForm::Id, b"<x@y>", b"<x@y>"),
+        (LineForm::Id, b"<>", b""),
+        (LineForm::Token, b"a/1", b"a/1"),
+        (LineForm::Token, b"a/../b", b""),
+        (LineForm::Peer, b"one.example", b"one.example"),
+        (LineForm::Peer, b".x", b""),
     ];
     for (form, octets, want) in rows {
         assert_told(&rt, &name_told(rt.alloc(), form, octets)?, want);

@@ -7,9 +7,12 @@ use std::fmt::Display;
 use std::process::Abort;
 
 // Octets: a prefix, an octet repeated this many times, and an end.
-pub(crate) type Long = (&'static [u8], u8, usize, &'static [u8]);
+pub(crate) type LongText = (&'static [u8], u8, usize, &'static [u8]);
 
-pub(crate) fn long(alloc: Global, (front, octet, count, end): Long) -> Result<Vec<u8>, AllocError> {
+pub(crate) fn long(
+    alloc: Global,
+    (front, octet, count, end): LongText,
+) -> Result<Vec<u8>, AllocError> {
     let mut octets = Vec::from_slice(alloc, front)?;
     octets.resize(front.len().saturating_add(count), octet)?;
     octets.extend_from_slice(end)?;

@@ -1,5 +1,5 @@
 // Reply lines from pieces of any size: the crate reply_reader.
-use crate::octets::{Long, assert_told, long, put, put_printed};
+use crate::octets::{LongText, assert_told, long, put, put_printed};
 use reply_reader::{Reply, ReplyFault, ReplyReader};
 use std::alloc::{AllocError, Global};
 use std::test::Fail;
@@ -81,7 +81,7 @@ fn replies_are_read(rt: HostRuntime) -> Result<(), Fail> {
 // The same for lines of 2,048 octets with their end, and for longer ones.
 #[test]
 fn long_replies_are_read(rt: HostRuntime) -> Result<(), Fail> {
-    let rows: [(Long, Long); 6] = [
+    let rows: [(LongText, LongText); 6] = [
         ((b"200", b'x', 2044, b"\n"), (b"200||", b'x', 2044, b"|")),
         (
             (b"200", b'x', 2045, b"\n"),

@@ -1,9 +1,9 @@
 // How fast a `Conn` sends articles, compared with a plain copy of the octets that it puts out.
 //
-// `conn ARTICLES OCTETS TEXTS` sends this many articles, of at most this many octets each, through one streaming
-// connection, 20 at a time, whose peer wants and takes each. `copy ARTICLES OCTETS TEXTS` copies as many blocks into a
-// buffer that is used again. Both take their articles from this many texts in turn, each in memory of its own.
-use crate::peer::{IN_FLIGHT, answers_of, drain, ids_of, offer, streaming, token_of};
+// `conn ARTICLES OCTETS TEXTS` sends ARTICLES articles, of at most OCTETS octets each, through one streaming
+// connection, 20 at a time, whose peer wants and takes each. `copy ARTICLES OCTETS TEXTS` copies ARTICLES blocks into
+// a buffer that is used again. Both take their articles from TEXTS texts in turn, each in memory of its own.
+use crate::peer::{IN_FLIGHT_ARTICLES, answers_of, drain, ids_of, offer, streaming, token_of};
 use crate::texts::text_of;
 use crate::time::{number, tell};
 use anyhow::{Context, Result, bail};
@@ -16,9 +16,9 @@ use ledger_core::{Debt, Key};
 use std::alloc::{AllocError, Global};
 use std::time::{Clock, Instant};
 
-/// What is sent, and what a peer replies to as many articles as are under way, made before the clock runs.
+/// What is sent, and what a peer replies to the articles under way, made before the clock runs.
 #[derive(Drop)]
-pub struct Feed {
+pub struct ArticleFeed {
     pub texts: Vec<Bytes>,
     token: Token,
     ids: Vec<MsgId>,
@@ -28,7 +28,7 @@ pub struct Feed {
 
 // What was put out, and how many articles the peer took.
 #[derive(Clone, Copy)]
-struct Told {
+struct ArticleCounts {
     octets: u64,
     finals: u64,
 }
@@ -78,7 +78,7 @@ fn measured<R: AllocGlobal + Print + Clock>(
     }
 }
 
-/// This many texts, all of the same lines.
+/// `count` texts, all of the same lines.
 pub fn texts_of(alloc: Global, octets: u64, count: u64) -> Result<Vec<Bytes>, AllocError> {
     let mut texts = Vec::new(alloc);
     for _ in 0..count {
@@ -97,12 +97,12 @@ pub fn blocks_of(alloc: Global, texts: Vec<Bytes>) -> Result<Vec<Bytes>> {
     Ok(blocks)
 }
 
-// Copies this many blocks, in turn, into a buffer that is emptied after each batch of as many as may be under way.
+// Copies `articles` blocks, in turn, into a buffer. It is emptied after each batch of `IN_FLIGHT_ARTICLES` blocks.
 fn copied(alloc: Global, blocks: &[Bytes], articles: u64) -> Result<u64> {
     let mut sum = 0u64;
     let mut buffer = Vec::new(alloc);
     for round in 0..articles {
-        if round % IN_FLIGHT == 0 {
+        if round % IN_FLIGHT_ARTICLES == 0 {
             buffer.clear();
         }
         let block = in_turn(blocks, round).context("a block")?;
@@ -119,9 +119,9 @@ pub fn in_turn(texts: &[Bytes], number: u64) -> Option<&Bytes> {
 }
 
 /// What is needed to send these texts in turn.
-pub fn feed_of(alloc: Global, texts: Vec<Bytes>) -> Result<Feed> {
+pub fn feed_of(alloc: Global, texts: Vec<Bytes>) -> Result<ArticleFeed> {
     let ids = ids_of(alloc)?;
-    Ok(Feed {
+    Ok(ArticleFeed {
         texts,
         token: token_of(alloc)?,
         wanted: answers_of(alloc, &ids, b"238")?,
@@ -130,14 +130,14 @@ pub fn feed_of(alloc: Global, texts: Vec<Bytes>) -> Result<Feed> {
     })
 }
 
-// Sends this many articles, in turn of these texts, with as many under way at once as may be.
-fn sent(alloc: Global, feed: &Feed, articles: u64) -> Result<Told> {
+// Sends `articles` articles, in turn of these texts, with `IN_FLIGHT_ARTICLES` of them under way at once.
+fn sent(alloc: Global, feed: &ArticleFeed, articles: u64) -> Result<ArticleCounts> {
     let mut conn = streaming(alloc)?;
-    let mut told = Told {
+    let mut told = ArticleCounts {
         octets: 0,
         finals: 0,
     };
-    for round in 0..articles / IN_FLIGHT {
+    for round in 0..articles / IN_FLIGHT_ARTICLES {
         offer_each(&mut conn, feed, round)?;
         told.octets = told.octets.saturating_add(drain(&mut conn));
         conn.input(&feed.wanted)?;
@@ -150,9 +150,11 @@ fn sent(alloc: Global, feed: &Feed, articles: u64) -> Result<Told> {
 }
 
 /// Offers one debt of each id.
-pub fn offer_each(conn: &mut Conn, feed: &Feed, round: u64) -> Result<()> {
+pub fn offer_each(conn: &mut Conn, feed: &ArticleFeed, round: u64) -> Result<()> {
     for (place, id) in feed.ids.iter().enumerate() {
-        let number = round.saturating_mul(IN_FLIGHT).saturating_add(place as u64);
+        let number = round
+            .saturating_mul(IN_FLIGHT_ARTICLES)
+            .saturating_add(place as u64);
         offer(
             conn,
             Debt::new(Key::new(0, number), feed.token.clone()?, id.clone()?),
@@ -163,7 +165,7 @@ pub fn offer_each(conn: &mut Conn, feed: &Feed, round: u64) -> Result<()> {
 
 /// Hands in each article that is wanted.
 pub fn hand_in_each(conn: &mut Conn, texts: &[Bytes]) -> Result<()> {
-    for _ in 0..IN_FLIGHT {
+    for _ in 0..IN_FLIGHT_ARTICLES {
         let key = conn.need().context("an article is wanted")?;
         let text = in_turn(texts, key.number()).context("a text")?;
         hand_in(conn, key, text.clone()?)?;
@@ -181,7 +183,7 @@ fn hand_in(conn: &mut Conn, key: Key, text: Bytes) -> Result<()> {
 /// Takes the outcomes, and returns how many are final answers.
 pub fn finals(conn: &mut Conn) -> u64 {
     let mut count = 0u64;
-    for _ in 0..IN_FLIGHT {
+    for _ in 0..IN_FLIGHT_ARTICLES {
         if let Some(Outcome::Final(_)) = conn.outcome() {
             count = count.saturating_add(1);
         }

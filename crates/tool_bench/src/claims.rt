@@ -1,7 +1,7 @@
 // How fast a `Station` claims all that it owes, if some of it is from the funnel and the rest from backlog files.
 //
-// `claim SOURCES LINES IMPORTED` owes this many lines of the funnel over a disk in memory, imports this many lines of
-// backlog files, spread evenly over this many sources, and flushes them all. Then it claims each debt, one after
+// `claim SOURCES LINES IMPORTED` owes LINES lines of the funnel over a disk in memory, imports IMPORTED lines of
+// backlog files, spread evenly over SOURCES sources, and flushes them all. Then it claims each debt, one after
 // another. The time is that of the claims alone.
 use crate::debts::{claim, flush, opened};
 use crate::peer::token_of;
@@ -33,7 +33,7 @@ struct Article {
 
 // What was claimed.
 #[derive(Clone, Copy)]
-struct Told {
+struct ClaimCounts {
     count: u64,
     // The time that the claims took.
     time: Duration,
@@ -66,7 +66,7 @@ pub fn small<R: AllocGlobal + Print + Clock>(rt: &R) -> Result<()> {
     Ok(())
 }
 
-fn claimed<R: AllocGlobal + Clock>(rt: &R, amounts: Amounts) -> Result<Told> {
+fn claimed<R: AllocGlobal + Clock>(rt: &R, amounts: Amounts) -> Result<ClaimCounts> {
     let mut station = opened(rt.alloc())?;
     owe_all(rt.alloc(), &mut station, amounts)?;
     claim_all(rt, &mut station, amounts)
@@ -108,7 +108,7 @@ fn import_all(station: &mut Station<MemDisk>, article: &Article, amounts: Amount
     Ok(())
 }
 
-// Imports this many lines of the open source, and closes it.
+// Imports `count` lines of the open source, and closes it.
 fn import_source(station: &mut Station<MemDisk>, article: &Article, count: u64) -> Result<()> {
     for number in 1..=count {
         import(station, article, number)?;
@@ -145,7 +145,11 @@ fn make_room(station: &mut Station<MemDisk>) -> Result<()> {
 }
 
 // Claims all that a station owes, which is this much.
-fn claim_all<R: Clock>(rt: &R, station: &mut Station<MemDisk>, amounts: Amounts) -> Result<Told> {
+fn claim_all<R: Clock>(
+    rt: &R,
+    station: &mut Station<MemDisk>,
+    amounts: Amounts,
+) -> Result<ClaimCounts> {
     let count = station.totals().owed;
     if count != amounts.lines.saturating_add(amounts.imported) {
         bail!("{count} debts are owed");
@@ -153,7 +157,7 @@ fn claim_all<R: Clock>(rt: &R, station: &mut Station<MemDisk>, amounts: Amounts)
     let start = Instant::now(rt)?;
     claim_each(station, count)?;
     let time = start.elapsed(rt)?;
-    Ok(Told { count, time })
+    Ok(ClaimCounts { count, time })
 }
 
 fn claim_each(station: &mut Station<MemDisk>, count: u64) -> Result<()> {

@@ -1,6 +1,6 @@
 // How the time to read a configuration grows with the number of its peers.
 //
-// `read PEERS` makes a configuration of this many peers and reads it; the time is that of the reading alone.
+// `read PEERS` makes a configuration of PEERS peers and reads it; the time is that of the reading alone.
 use crate::time::{number, tell};
 use anyhow::{Result, bail};
 use feed_conf::{Conf, NoMemory, read_conf};
@@ -32,7 +32,7 @@ fn measured<R: AllocGlobal + Print + Clock>(rt: &R, peers: u64) -> Result<()> {
     tell(rt, peers, "peers", start.elapsed(rt)?)
 }
 
-// A configuration of this many peers, in one group, each with values of its own and a key that is not in the profile.
+// A configuration of `peers` peers, in one group, each with values of its own and a key that is not in the profile.
 fn text_of(alloc: Global, peers: u64) -> Result<Vec<u8>, NoMemory> {
     let mut text = Vec::from_slice(
         alloc,

@@ -1,11 +1,14 @@
 // How fast a `Station` works off its debts, if all are owed before the first is claimed.
 //
-// `run COUNT` owes this many debts over a disk in memory, to a peer that wants none of them: each is claimed and
-// settled. `defer COUNT` owes as many, to a peer that defers each: all are claimed, deferred, and claimed again once
-// the moment has passed. The time is that of the station's calls, without the connection that answers. `shed COUNT`
-// owes as many at a station whose backlog may have none of them, and sheds all. `claim` has a module of its own.
+// `run COUNT` owes COUNT debts over a disk in memory, to a peer that wants none of them: each is claimed and
+// settled. `defer COUNT` owes COUNT debts to a peer that defers each: all are claimed, deferred, and claimed again
+// once the moment has passed. The time is that of the station's calls, without the connection that answers. `shed
+// COUNT` owes COUNT debts at a station whose backlog may have none of them, and sheds all. `claim` has a module of
+// its own.
 use crate::claims;
-use crate::peer::{CONNECTION, IN_FLIGHT, answers_of, drain, ids_of, offer, streaming, token_of};
+use crate::peer::{
+    CONNECTION, IN_FLIGHT_ARTICLES, answers_of, drain, ids_of, offer, streaming, token_of,
+};
 use crate::time::{number, tell};
 use anyhow::{Context, Result, bail};
 use conn_core::{Conn, Outcome};
@@ -16,12 +19,12 @@ use peer_queue::{Limits, Station};
 use std::alloc::Global;
 use std::time::{Clock, Duration, Instant};
 
-// How many batches of debts are owed or settled before each flush; a batch is as many as may be under way.
+// How many batches of debts are owed or settled before each flush. A batch is all that may be under way at once.
 const BATCHES: u64 = 50;
 
 // What the peer does with each debt.
 #[derive(Clone, Copy)]
-enum Work {
+enum DebtWork {
     // It wants none: each is settled.
     Settle,
     // It defers each: each is claimed again.
@@ -39,7 +42,7 @@ struct BenchPeer {
 
 // What became of the debts.
 #[derive(Clone, Copy)]
-struct Told {
+struct DebtCounts {
     // How many were settled or deferred.
     answered: u64,
     // How many were claimed again once their moment had passed.
@@ -48,7 +51,7 @@ struct Told {
     time: Duration,
 }
 
-impl Told {
+impl DebtCounts {
     // Adds the time since the start.
     fn stop<R: Clock>(&mut self, rt: &R, start: Instant) -> Result<()> {
         let time = start.elapsed(rt)?;
@@ -69,17 +72,17 @@ pub fn run<R: AllocGlobal + Print + Clock>(rt: &R, words: &[String]) -> Result<(
 
 fn time_of<R: AllocGlobal + Clock>(rt: &R, work: &str, count: u64) -> Result<Duration> {
     match work {
-        "run" => Ok(worked_off(rt, Work::Settle, count)?.time),
-        "defer" => Ok(worked_off(rt, Work::Defer, count)?.time),
+        "run" => Ok(worked_off(rt, DebtWork::Settle, count)?.time),
+        "defer" => Ok(worked_off(rt, DebtWork::Defer, count)?.time),
         "shed" => Ok(shed_off(rt, count)?.time),
         _ => bail!("peer_queue: no work {work}"),
     }
 }
 
 fn small<R: AllocGlobal + Print + Clock>(rt: &R) -> Result<()> {
-    let told = worked_off(rt, Work::Settle, 2000)?;
+    let told = worked_off(rt, DebtWork::Settle, 2000)?;
     println!(rt; "peer_queue: {} debts settled", told.answered)?;
-    let told = worked_off(rt, Work::Defer, 2000)?;
+    let told = worked_off(rt, DebtWork::Defer, 2000)?;
     println!(rt;
         "peer_queue: {} debts deferred, {} claimed again",
         told.answered, told.claimed_again
@@ -89,7 +92,7 @@ fn small<R: AllocGlobal + Print + Clock>(rt: &R) -> Result<()> {
     claims::small(rt)
 }
 
-fn worked_off<R: AllocGlobal + Clock>(rt: &R, work: Work, count: u64) -> Result<Told> {
+fn worked_off<R: AllocGlobal + Clock>(rt: &R, work: DebtWork, count: u64) -> Result<DebtCounts> {
     let mut peer = peer_of(rt.alloc(), work)?;
     worked_off_with(rt, &mut peer, work, count)
 }
@@ -98,10 +101,10 @@ fn worked_off<R: AllocGlobal + Clock>(rt: &R, work: Work, count: u64) -> Result<
 fn worked_off_with<R: AllocGlobal + Clock>(
     rt: &R,
     peer: &mut BenchPeer,
-    work: Work,
+    work: DebtWork,
     count: u64,
-) -> Result<Told> {
-    let mut told = Told {
+) -> Result<DebtCounts> {
+    let mut told = DebtCounts {
         answered: 0,
         claimed_again: 0,
         time: Duration::ZERO,
@@ -114,14 +117,14 @@ fn worked_off_with<R: AllocGlobal + Clock>(
     Ok(told)
 }
 
-// Owes this many debts at a station whose backlog may have none of them, and sheds all, with a flush after each call.
+// Owes `count` debts at a station whose backlog may have none of them, and sheds all, with a flush after each call.
 // What was shed counts as answered.
-fn shed_off<R: AllocGlobal + Clock>(rt: &R, count: u64) -> Result<Told> {
+fn shed_off<R: AllocGlobal + Clock>(rt: &R, count: u64) -> Result<DebtCounts> {
     let mut station = limited(rt.alloc(), 1)?;
     owe_new(rt.alloc(), &mut station, count)?;
     let start = Instant::now(rt)?;
     let answered = all_shed(&mut station, count)?;
-    Ok(Told {
+    Ok(DebtCounts {
         answered,
         claimed_again: 0,
         time: start.elapsed(rt)?,
@@ -132,11 +135,11 @@ fn shed_off<R: AllocGlobal + Clock>(rt: &R, count: u64) -> Result<Told> {
 //
 // proof: as `worked_off_with`.
 fn owe_new(alloc: Global, station: &mut Station<MemDisk>, count: u64) -> Result<()> {
-    let peer = peer_of(alloc, Work::Settle)?;
+    let peer = peer_of(alloc, DebtWork::Settle)?;
     owe_all(station, &peer, count)
 }
 
-// Sheds until nothing more is to be shed, with at most this many calls, and returns how many debts were shed.
+// Sheds until nothing more is to be shed, with at most `most` calls, and returns how many debts were shed.
 fn all_shed(station: &mut Station<MemDisk>, most: u64) -> Result<u64> {
     let mut count = 0u64;
     for _ in 0..most {
@@ -158,15 +161,15 @@ fn shed(station: &mut Station<MemDisk>) -> Result<(u64, bool)> {
     Ok((shed.keys.len() as u64, shed.more))
 }
 
-// Claims this many debts in batches, and settles each as the peer answers.
+// Claims `count` debts in batches, and settles each as the peer answers.
 fn work_off<R: AllocGlobal + Clock>(
     rt: &R,
     station: &mut Station<MemDisk>,
     peer: &mut BenchPeer,
     count: u64,
-    told: &mut Told,
+    told: &mut DebtCounts,
 ) -> Result<()> {
-    for round in 0..count / IN_FLIGHT {
+    for round in 0..count / IN_FLIGHT_ARTICLES {
         let debts = claim_batch(rt, station, told)?;
         let outcomes = outcomes_of(rt.alloc(), peer, debts)?;
         end_batch(rt, station, outcomes, round, told)?;
@@ -177,7 +180,7 @@ fn work_off<R: AllocGlobal + Clock>(
 fn claim_batch<R: AllocGlobal + Clock>(
     rt: &R,
     station: &mut Station<MemDisk>,
-    told: &mut Told,
+    told: &mut DebtCounts,
 ) -> Result<Vec<Debt>> {
     let start = Instant::now(rt)?;
     let debts = claimed(rt.alloc(), station)?;
@@ -191,7 +194,7 @@ fn end_batch<R: Clock>(
     station: &mut Station<MemDisk>,
     outcomes: Vec<Outcome>,
     round: u64,
-    told: &mut Told,
+    told: &mut DebtCounts,
 ) -> Result<()> {
     let start = Instant::now(rt)?;
     let answered = end_each(station, outcomes)?;
@@ -206,22 +209,22 @@ fn end_batch<R: Clock>(
 fn end_all<R: Clock>(
     rt: &R,
     station: &mut Station<MemDisk>,
-    work: Work,
+    work: DebtWork,
     count: u64,
-    told: &mut Told,
+    told: &mut DebtCounts,
 ) -> Result<()> {
     let start = Instant::now(rt)?;
     flush(station)?;
-    if let Work::Defer = work {
+    if let DebtWork::Defer = work {
         told.claimed_again = all_claimed(station, count)?;
     }
     told.stop(rt, start)
 }
 
-fn peer_of(alloc: Global, work: Work) -> Result<BenchPeer> {
+fn peer_of(alloc: Global, work: DebtWork) -> Result<BenchPeer> {
     let code = match work {
-        Work::Settle => b"438",
-        Work::Defer => b"431",
+        DebtWork::Settle => b"438",
+        DebtWork::Defer => b"431",
     };
     let ids = ids_of(alloc)?;
     Ok(BenchPeer {
@@ -240,22 +243,22 @@ fn outcomes_of(alloc: Global, peer: &mut BenchPeer, debts: Vec<Debt>) -> Result<
     drain(&mut peer.conn);
     peer.conn.input(&peer.answers)?;
     let mut outcomes = Vec::new(alloc);
-    for _ in 0..IN_FLIGHT {
+    for _ in 0..IN_FLIGHT_ARTICLES {
         outcomes.push(peer.conn.outcome().context("an outcome")?)?;
     }
     Ok(outcomes)
 }
 
-// A station over a disk in memory that owes this many debts, rounded down to whole batches, with no note pending.
+// A station over a disk in memory that owes `count` debts, rounded down to whole batches, with no note pending.
 fn owing(alloc: Global, peer: &BenchPeer, count: u64) -> Result<Station<MemDisk>> {
     let mut station = opened(alloc)?;
     owe_all(&mut station, peer, count)?;
     Ok(station)
 }
 
-// Owes this many debts, rounded down to whole batches, and flushes.
+// Owes `count` debts, rounded down to whole batches, and flushes.
 fn owe_all(station: &mut Station<MemDisk>, peer: &BenchPeer, count: u64) -> Result<()> {
-    for round in 0..count / IN_FLIGHT {
+    for round in 0..count / IN_FLIGHT_ARTICLES {
         owe_batch(station, peer, round)?;
         if round % BATCHES == 0 {
             flush(station)?;
@@ -269,7 +272,7 @@ pub fn opened(alloc: Global) -> Result<Station<MemDisk>> {
     limited(alloc, 0)
 }
 
-// A station over empty disks in memory, whose backlog may have this many octets, or any number of them if 0.
+// A station over empty disks in memory, whose backlog may have `octets` octets, or any number of them if 0.
 fn limited(alloc: Global, octets: u64) -> Result<Station<MemDisk>> {
     let limits = Limits {
         backlog_limit: octets,
@@ -284,7 +287,9 @@ fn limited(alloc: Global, octets: u64) -> Result<Station<MemDisk>> {
 
 fn owe_batch(station: &mut Station<MemDisk>, peer: &BenchPeer, round: u64) -> Result<()> {
     for (place, id) in peer.ids.iter().enumerate() {
-        let number = round.saturating_mul(IN_FLIGHT).saturating_add(place as u64);
+        let number = round
+            .saturating_mul(IN_FLIGHT_ARTICLES)
+            .saturating_add(place as u64);
         station.owe(number.saturating_add(1), &peer.token, id)?;
     }
     Ok(())
@@ -308,13 +313,13 @@ pub fn claim(station: &mut Station<MemDisk>, now: u64) -> Result<Option<Debt>> {
 
 fn claimed(alloc: Global, station: &mut Station<MemDisk>) -> Result<Vec<Debt>> {
     let mut debts = Vec::new(alloc);
-    for _ in 0..IN_FLIGHT {
+    for _ in 0..IN_FLIGHT_ARTICLES {
         debts.push(claim(station, 0)?.context("a debt")?)?;
     }
     Ok(debts)
 }
 
-// Tries this many times to claim a debt that was deferred at moment 0, and returns how many it claimed.
+// Tries `most` times to claim a debt that was deferred at moment 0, and returns how many it claimed.
 fn all_claimed(station: &mut Station<MemDisk>, most: u64) -> Result<u64> {
     let mut count = 0u64;
     for _ in 0..most {

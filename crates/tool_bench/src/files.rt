@@ -1,10 +1,10 @@
 // How fast a tape in files flushes its notes, and how fast it is opened.
 //
 // `flush DIRECTORY COUNT NOTES` makes COUNT flushes of NOTES notes each, 256 by default, to a new tape in two files of
-// this directory; the time is that of the flushes alone. `fill DIRECTORY COUNT` leaves there a tape with this many
-// debts, 51,200 to a flush, and prints the program's peak memory, as Linux reports it. `open DIRECTORY` opens that
-// tape, and `memory DIRECTORY` prints the peak memory of doing so. `rotate DIRECTORY COUNT` rotates that tape this many
-// times; the time is without the opening.
+// this directory; the time is that of the flushes alone. `fill DIRECTORY COUNT` leaves there a tape with COUNT debts,
+// 51,200 to a flush, and prints the program's peak memory, as Linux reports it. `open DIRECTORY` opens that tape, and
+// `memory DIRECTORY` prints the peak memory of doing so. `rotate DIRECTORY COUNT` rotates that tape COUNT times; the
+// time is without the opening.
 use crate::openings::{open, owe};
 use crate::time::{number, tell};
 use anyhow::{Context, Result, bail};
@@ -67,7 +67,7 @@ fn small<R: AllocGlobal + Print + Clock + Files<File = File>>(rt: &R) -> Result<
     remove(rt, ".")
 }
 
-// Flushes this many notes this many times to a new tape in this directory, and returns the time that the flushes took.
+// Flushes `notes` notes `count` times to a new tape in this directory, and returns the time that the flushes took.
 //
 // proof: the tape of each of these in a frame of its own, so that no way out of its caller drops it.
 fn flushed_in<R: AllocGlobal + Clock + Files<File = File>>(
@@ -79,7 +79,7 @@ fn flushed_in<R: AllocGlobal + Clock + Files<File = File>>(
     flushed(rt, &mut emptied(rt, path)?, count, notes)
 }
 
-// Rotates the tape in this directory this many times, and returns the time that it took.
+// Rotates the tape in this directory `count` times, and returns the time that it took.
 fn rotated_in<R: AllocGlobal + Clock + Files<File = File>>(
     rt: &R,
     path: &str,
@@ -157,7 +157,7 @@ fn rotated<R: AllocGlobal + Clock>(
     Ok(start.elapsed(rt)?)
 }
 
-// Owes 256 debts this many times, with a flush now and then.
+// Owes 256 debts `count` times, with a flush now and then.
 fn fill<R: AllocGlobal>(rt: &R, tape: &mut Tape<FileDisk<TapeFile>>, count: u64) -> Result<()> {
     for round in 0..count {
         note_all(rt, tape, FLUSH_NOTES)?;

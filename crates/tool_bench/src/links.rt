@@ -1,14 +1,14 @@
 // How fast `drive` sends articles through a link in memory, compared with plain sends of the same octets through such a
 // link.
 //
-// `drive ARTICLES OCTETS` makes a connection send this many articles, of at most this many octets each, 20 at a time;
+// `drive ARTICLES OCTETS` makes a connection send ARTICLES articles, of at most OCTETS octets each, 20 at a time;
 // the clock runs while the octets of the articles go out and the replies come in. `copy ARTICLES OCTETS` sends the
-// blocks of as many articles, one after another in memory, and receives as many replies, by the calls of the link
+// blocks of ARTICLES articles, one after another in memory, and receives a reply for each, by the calls of the link
 // alone.
 use crate::articles::{
-    Feed, blocks_of, feed_of, finals, hand_in_each, in_turn, offer_each, texts_of,
+    ArticleFeed, blocks_of, feed_of, finals, hand_in_each, in_turn, offer_each, texts_of,
 };
-use crate::peer::{IN_FLIGHT, drain, streaming};
+use crate::peer::{IN_FLIGHT_ARTICLES, drain, streaming};
 use crate::time::{number, tell};
 use anyhow::{Context, Result, bail};
 use bytes::Bytes;
@@ -17,7 +17,7 @@ use event_loop::{Driven, End, Link, MemLink, Moved, drive};
 use std::alloc::Global;
 use std::time::{Clock, Duration, Instant};
 
-// How many octets a link moves at most, as many as a buffer for receiving has.
+// How many octets a link moves at most: the length of a buffer for receiving.
 const PIECE_MAX_OCTETS: usize = 65_536;
 
 // How many texts the articles are taken from, in turn.
@@ -28,14 +28,14 @@ const TURNS_MAX: u64 = 100_000;
 
 // What went out, how many articles were taken, and the time.
 #[derive(Clone, Copy)]
-struct Told {
+struct LinkCounts {
     octets: u64,
     finals: u64,
     time: Duration,
 }
 
-impl Told {
-    const NOTHING: Told = Told {
+impl LinkCounts {
+    const NOTHING: LinkCounts = LinkCounts {
         octets: 0,
         finals: 0,
         time: Duration::ZERO,
@@ -77,15 +77,19 @@ fn small<R: AllocGlobal + Print + Clock>(rt: &R) -> Result<()> {
     Ok(())
 }
 
-// Sends this many articles, of at most this many octets each.
+// Sends `articles` articles, of at most `octets` octets each.
 //
 // proof: what is sent in a frame of its own, here and in the next, so that no way out of their callers drops it.
-fn articles_driven<R: AllocGlobal + Clock>(rt: &R, articles: u64, octets: u64) -> Result<Told> {
+fn articles_driven<R: AllocGlobal + Clock>(
+    rt: &R,
+    articles: u64,
+    octets: u64,
+) -> Result<LinkCounts> {
     let texts = texts_of(rt.alloc(), octets, TEXTS)?;
     driven(rt, &feed_of(rt.alloc(), texts)?, articles)
 }
 
-fn blocks_copied<R: AllocGlobal + Clock>(rt: &R, articles: u64, octets: u64) -> Result<Told> {
+fn blocks_copied<R: AllocGlobal + Clock>(rt: &R, articles: u64, octets: u64) -> Result<LinkCounts> {
     let blocks = blocks_of(rt.alloc(), texts_of(rt.alloc(), octets, TEXTS)?)?;
     copied(rt, &feed_of(rt.alloc(), blocks)?, articles)
 }
@@ -95,12 +99,12 @@ fn link_of(alloc: Global, octets: &[u8]) -> Result<MemLink> {
     Ok(MemLink::new(alloc, source, PIECE_MAX_OCTETS, End::Never, End::Never))
 }
 
-// Sends this many articles, with as many under way at once as may be.
-fn driven<R: AllocGlobal + Clock>(rt: &R, feed: &Feed, articles: u64) -> Result<Told> {
+// Sends `articles` articles, with `IN_FLIGHT_ARTICLES` of them under way at once.
+fn driven<R: AllocGlobal + Clock>(rt: &R, feed: &ArticleFeed, articles: u64) -> Result<LinkCounts> {
     let mut conn = streaming(rt.alloc())?;
     let mut buffer = vec![in rt.alloc(); 0; PIECE_MAX_OCTETS]?;
-    let mut told = Told::NOTHING;
-    for round in 0..articles / IN_FLIGHT {
+    let mut told = LinkCounts::NOTHING;
+    for round in 0..articles / IN_FLIGHT_ARTICLES {
         ready_batch(&mut conn, feed, round)?;
         drive_batch(rt, &mut conn, feed, &mut buffer, &mut told)?;
     }
@@ -108,7 +112,7 @@ fn driven<R: AllocGlobal + Clock>(rt: &R, feed: &Feed, articles: u64) -> Result<
 }
 
 // Hands in a batch of articles, and sends none yet.
-fn ready_batch(conn: &mut Conn, feed: &Feed, round: u64) -> Result<()> {
+fn ready_batch(conn: &mut Conn, feed: &ArticleFeed, round: u64) -> Result<()> {
     offer_each(conn, feed, round)?;
     drain(conn);
     conn.input(&feed.wanted)?;
@@ -118,9 +122,9 @@ fn ready_batch(conn: &mut Conn, feed: &Feed, round: u64) -> Result<()> {
 fn drive_batch<R: AllocGlobal + Clock>(
     rt: &R,
     conn: &mut Conn,
-    feed: &Feed,
+    feed: &ArticleFeed,
     buffer: &mut [u8],
-    told: &mut Told,
+    told: &mut LinkCounts,
 ) -> Result<()> {
     let mut link = link_of(rt.alloc(), &[])?;
     let start = Instant::now(rt)?;
@@ -140,12 +144,12 @@ fn driven_once(conn: &mut Conn, link: &mut MemLink, buffer: &mut [u8]) -> Driven
     drive(conn, link, buffer, TURNS_MAX)
 }
 
-// Sends as many blocks in turn, and receives as many replies.
-fn copied<R: AllocGlobal + Clock>(rt: &R, feed: &Feed, articles: u64) -> Result<Told> {
+// Sends `articles` blocks in turn, and receives a reply for each.
+fn copied<R: AllocGlobal + Clock>(rt: &R, feed: &ArticleFeed, articles: u64) -> Result<LinkCounts> {
     let mut buffer = vec![in rt.alloc(); 0; PIECE_MAX_OCTETS]?;
     let mut batch = Vec::new(rt.alloc());
-    let mut told = Told::NOTHING;
-    for round in 0..articles / IN_FLIGHT {
+    let mut told = LinkCounts::NOTHING;
+    for round in 0..articles / IN_FLIGHT_ARTICLES {
         fill_batch(&mut batch, &feed.texts, round)?;
         let mut link = link_of(rt.alloc(), &[])?;
         let start = Instant::now(rt)?;
@@ -160,8 +164,10 @@ fn copied<R: AllocGlobal + Clock>(rt: &R, feed: &Feed, articles: u64) -> Result<
 // Fills the batch with the octets of its blocks, in turn.
 fn fill_batch(batch: &mut Vec<u8>, blocks: &[Bytes], round: u64) -> Result<()> {
     batch.clear();
-    for place in 0..IN_FLIGHT {
-        let number = round.saturating_mul(IN_FLIGHT).saturating_add(place);
+    for place in 0..IN_FLIGHT_ARTICLES {
+        let number = round
+            .saturating_mul(IN_FLIGHT_ARTICLES)
+            .saturating_add(place);
         batch.extend_from_slice(in_turn(blocks, number).context("a block")?)?;
     }
     Ok(())

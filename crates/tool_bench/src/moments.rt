@@ -14,7 +14,7 @@ use std::time::{Clock, Instant};
 
 // In which order the numbers below the count are put in, each once.
 #[derive(Clone, Copy)]
-enum Order {
+enum NumberOrder {
     // From the least to the greatest.
     Rising,
     // Each far from the one before it, so that neighbouring numbers lie far apart in memory.
@@ -23,13 +23,13 @@ enum Order {
 
 // How far apart successive numbers are in scattered order, modulo their count. It is prime: each number comes once,
 // unless the count is a multiple of it.
-const STRIDE: u64 = 461_803;
+const STRIDE_NUMBERS: u64 = 461_803;
 
-impl Order {
-    fn named(name: &str) -> Result<Order> {
+impl NumberOrder {
+    fn named(name: &str) -> Result<NumberOrder> {
         match name {
-            "rising" => Ok(Order::Rising),
-            "scattered" => Ok(Order::Scattered),
+            "rising" => Ok(NumberOrder::Rising),
+            "scattered" => Ok(NumberOrder::Scattered),
             _ => bail!("no order of deferral: rising and scattered are"),
         }
     }
@@ -38,9 +38,9 @@ impl Order {
     fn number(self, turn: u32, count: u32) -> u64 {
         let turn = u64::from(turn);
         match self {
-            Order::Rising => turn,
-            Order::Scattered => turn
-                .saturating_mul(STRIDE)
+            NumberOrder::Rising => turn,
+            NumberOrder::Scattered => turn
+                .saturating_mul(STRIDE_NUMBERS)
                 .checked_rem(u64::from(count))
                 .unwrap_or(0),
         }
@@ -51,7 +51,7 @@ pub fn run<R: AllocGlobal + Print + Clock>(rt: &R, words: &[String]) -> Result<(
     match words {
         [] => small(rt),
         [pattern, order, count] => {
-            let order = Order::named(order)?;
+            let order = NumberOrder::named(order)?;
             let count = u32::try_from(number(count)?)?;
             let start = Instant::now(rt)?;
             let done = worked(rt.alloc(), pattern.as_str(), order, count)?;
@@ -63,8 +63,8 @@ pub fn run<R: AllocGlobal + Print + Clock>(rt: &R, words: &[String]) -> Result<(
 
 fn small<R: AllocGlobal + Print>(rt: &R) -> Result<()> {
     for pattern in ["together", "waiting", "again", "held"] {
-        let rising = worked(rt.alloc(), pattern, Order::Rising, 200)?;
-        let scattered = worked(rt.alloc(), pattern, Order::Scattered, 200)?;
+        let rising = worked(rt.alloc(), pattern, NumberOrder::Rising, 200)?;
+        let scattered = worked(rt.alloc(), pattern, NumberOrder::Scattered, 200)?;
         println!(rt;
             "deferral: {pattern}, {rising} of 200 rising numbers, {scattered} of 200 scattered"
         )?;
@@ -73,7 +73,7 @@ fn small<R: AllocGlobal + Print>(rt: &R) -> Result<()> {
 }
 
 // Runs a pattern, and returns how many numbers it worked on.
-fn worked(alloc: Global, pattern: &str, order: Order, count: u32) -> Result<u64> {
+fn worked(alloc: Global, pattern: &str, order: NumberOrder, count: u32) -> Result<u64> {
     let mut later = filled(alloc, order, count)?;
     match pattern {
         "together" => Ok(together(&mut later, count)),
@@ -94,7 +94,7 @@ fn put_new(later: &mut Later, key: Key, due: u64) -> Result<bool> {
 }
 
 // The numbers below this one, each of which waits for moment 60.
-fn filled(alloc: Global, order: Order, count: u32) -> Result<Later> {
+fn filled(alloc: Global, order: NumberOrder, count: u32) -> Result<Later> {
     let mut later = Later::new(alloc);
     for turn in 0..count {
         put_new(&mut later, Key::new(0, order.number(turn, count)), 60)?;
@@ -137,7 +137,7 @@ fn again(later: &mut Later, count: u32) -> Result<u64> {
     Ok(moved)
 }
 
-fn held(later: &mut Later, order: Order, count: u32) -> u64 {
+fn held(later: &mut Later, order: NumberOrder, count: u32) -> u64 {
     let mut found = 0u64;
     for turn in 0..count {
         let key = Key::new(0, order.number(turn, count));

@@ -1,8 +1,8 @@
 // How the time to open a tape grows with its notes, and how many disk calls a flush makes.
 //
-// `open NOTES TIMES` opens a tape of this many notes this many times; flushes of 51,200 notes each have written it, and
-// the time is without that. `due NOTES TIMES` asks such a tape this many times whether a rotation is due; the time is
-// without the building and the opening of the tape.
+// `open NOTES TIMES` opens a tape of NOTES notes TIMES times; flushes of 51,200 notes each have written it, and the
+// time is without that. `due NOTES TIMES` asks such a tape TIMES times whether a rotation is due; the time is without
+// the building and the opening of the tape.
 use crate::counted::CountedDisk;
 use crate::time::{number, tell};
 use anyhow::{Context, Result, bail};
@@ -85,7 +85,7 @@ fn owe_all<D: Disk>(alloc: Global, tape: &mut Tape<D>, notes: u64) -> Result<()>
     Ok(())
 }
 
-// A disk with the tape of this many debts.
+// A disk with the tape of `notes` debts.
 fn disk_with(alloc: Global, notes: u64) -> Result<MemDisk> {
     let mut tape = open(alloc, MemDisk::new(alloc), MemDisk::new(alloc))?;
     owe_all(alloc, &mut tape, notes)?;
@@ -101,7 +101,7 @@ pub fn open<D: Disk + Drop>(alloc: Global, a: D, b: D) -> Result<Tape<D>> {
     }
 }
 
-// Opens the tape on a disk and an empty one this many times, and returns how many debts were owed the last time.
+// Opens the tape on a disk and an empty one `times` times, and returns how many debts were owed the last time.
 fn opened(alloc: Global, disk: MemDisk, times: u64) -> Result<u64> {
     let mut disks = (disk, MemDisk::new(alloc));
     let mut owed = 0;
@@ -114,7 +114,7 @@ fn opened(alloc: Global, disk: MemDisk, times: u64) -> Result<u64> {
     Ok(owed)
 }
 
-// How many disk calls that write, cut or sync are made by an opening of two empty disks and a flush of this many notes.
+// How many disk calls that write, cut or sync are made by an opening of two empty disks and a flush of `notes` notes.
 fn calls_of(alloc: Global, notes: u64) -> Result<u64> {
     let a = CountedDisk::new(MemDisk::new(alloc));
     let b = CountedDisk::new(MemDisk::new(alloc));

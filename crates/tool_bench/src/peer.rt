@@ -6,7 +6,7 @@ use ledger_core::Debt;
 use std::alloc::Global;
 
 /// How many articles are under way at once.
-pub const IN_FLIGHT: u64 = 20;
+pub const IN_FLIGHT_ARTICLES: u64 = 20;
 
 /// The connection that sends them.
 pub const CONNECTION: CxnId = CxnId(1);
@@ -15,7 +15,7 @@ pub const CONNECTION: CxnId = CxnId(1);
 pub fn streaming(alloc: Global) -> Result<Conn> {
     let options = Options {
         streaming: true,
-        max_queue: IN_FLIGHT,
+        max_queue: IN_FLIGHT_ARTICLES,
         check_high: 10_001,
         check_low: 0,
         check_filter: 50,
@@ -31,10 +31,10 @@ pub fn token_of(alloc: Global) -> Result<Token> {
     Token::read(alloc, b"default/0001")?.context("a token")
 }
 
-/// The ids of as many articles as are under way.
+/// The ids of the `IN_FLIGHT_ARTICLES` articles under way.
 pub fn ids_of(alloc: Global) -> Result<Vec<MsgId>> {
     let mut ids = Vec::new(alloc);
-    for place in 0..IN_FLIGHT {
+    for place in 0..IN_FLIGHT_ARTICLES {
         let id = format!(in alloc; "<{place}.article@news.example.org>")?;
         let id = MsgId::read(alloc, id.as_bytes())?.context("a message-id")?;
         ids.push(id)?;

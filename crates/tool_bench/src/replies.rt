@@ -14,7 +14,7 @@ const PIECE_OCTETS: usize = 1500;
 
 // How many replies were read, and the sum of their codes.
 #[derive(Clone, Copy)]
-struct Totals {
+struct ReplyTotals {
     count: u64,
     codes: u64,
 }
@@ -51,7 +51,7 @@ fn measured<R: AllocGlobal + Print + Clock>(rt: &R, work: &str, count: u64) -> R
     tell(rt, count, "replies", time)
 }
 
-// The replies to this many offers, half of them refusals.
+// The replies to `count` offers, half of them refusals.
 fn replies_of(alloc: Global, count: u64) -> Result<Vec<u8>, AllocError> {
     let mut octets = Vec::new(alloc);
     for k in 0..count {
@@ -62,9 +62,9 @@ fn replies_of(alloc: Global, count: u64) -> Result<Vec<u8>, AllocError> {
     Ok(octets)
 }
 
-fn read(alloc: Global, octets: &[u8]) -> Result<Totals> {
+fn read(alloc: Global, octets: &[u8]) -> Result<ReplyTotals> {
     let mut reader = ReplyReader::new(alloc);
-    let mut totals = Totals { count: 0, codes: 0 };
+    let mut totals = ReplyTotals { count: 0, codes: 0 };
     for piece in octets.chunks(PIECE_OCTETS) {
         read_piece(&mut reader, piece, &mut totals)?;
     }
@@ -72,7 +72,7 @@ fn read(alloc: Global, octets: &[u8]) -> Result<Totals> {
 }
 
 // Feeds a piece, and reads the replies that are complete.
-fn read_piece(reader: &mut ReplyReader, piece: &[u8], totals: &mut Totals) -> Result<()> {
+fn read_piece(reader: &mut ReplyReader, piece: &[u8], totals: &mut ReplyTotals) -> Result<()> {
     reader.feed(piece)?;
     for _ in 0..u64::MAX {
         let Some(reply) = reader.next()? else {
@@ -85,8 +85,8 @@ fn read_piece(reader: &mut ReplyReader, piece: &[u8], totals: &mut Totals) -> Re
 }
 
 // How many line ends there are, and the sum of their places in the pieces.
-fn walk(octets: &[u8]) -> Totals {
-    let mut totals = Totals { count: 0, codes: 0 };
+fn walk(octets: &[u8]) -> ReplyTotals {
+    let mut totals = ReplyTotals { count: 0, codes: 0 };
     for piece in octets.chunks(PIECE_OCTETS) {
         for place in memchr_iter(b'\n', piece) {
             totals.count = totals.count.wrapping_add(1);

@@ -8,7 +8,7 @@ const LINES: &[u8] = b"Path: news.example.org!feeder.example.net!peer.example.co
     ..and a line that begins with dots has one more of them on its way out.\n\
     The quick brown fox jumps over the lazy dog while the dog looks on.\n";
 
-/// Whole lines, as many as fit into this many octets.
+/// Whole lines, as many as fit into `octets` octets.
 pub fn text_of(alloc: Global, octets: usize) -> Result<Vec<u8>, AllocError> {
     let mut text = Vec::with_capacity(alloc, octets)?;
     for _ in 0..octets / LINES.len() {

@@ -1,10 +1,10 @@
 // What a debt costs on its way from a funnel line to the note of its final answer.
 //
-// `way DIRECTORY COUNT` takes this many debts of one peer, in whole batches of 256, the whole way over a tape in two
-// files of this directory: each line of a batch is read and owed, and the batch is flushed; each debt is claimed and
-// offered, 16 at a time, to a connection whose peer wants and takes each article; each outcome is finished, and the
-// batch is flushed again. `owed DIRECTORY COUNT` reads, owes and flushes as many, and ends there. What the peer replies
-// is made before the clock runs.
+// `way DIRECTORY COUNT` takes COUNT debts of one peer, in whole batches of 256, the whole way over a tape in two files
+// of this directory. Each line of a batch is read and owed, and the batch is flushed. Each debt is claimed and offered,
+// 16 at a time, to a connection whose peer wants and takes each article. Each outcome is finished, and the batch is
+// flushed again. `owed DIRECTORY COUNT` reads, owes and flushes COUNT debts, and ends there. What the peer replies is
+// made before the clock runs.
 use crate::files::{disks_in, remove};
 use crate::peer::{CONNECTION, answers_of, drain, offer, streaming};
 use crate::texts::text_of;
@@ -33,13 +33,13 @@ const ARTICLE_MAX_OCTETS: usize = 1000;
 
 // A batch of lines, and what the peer replies to the debts of each round.
 #[derive(Drop)]
-struct Feed {
+struct WayFeed {
     lines: Vec<String>,
     rounds: Vec<Round>,
     text: Bytes,
 }
 
-// What the peer replies to as many debts as are under way.
+// What the peer replies to the debts under way.
 #[derive(Drop)]
 struct Round {
     wanted: Vec<u8>,
@@ -96,9 +96,9 @@ fn owed<R: AllocGlobal + Print + Clock + Files<File = File>>(
     tell(rt, totals.owed, "debts", start.elapsed(rt)?)
 }
 
-fn feed_of(alloc: Global) -> Result<Feed> {
+fn feed_of(alloc: Global) -> Result<WayFeed> {
     let ids = ids_of(alloc)?;
-    Ok(Feed {
+    Ok(WayFeed {
         lines: lines_of(alloc, &ids)?,
         rounds: rounds_of(alloc, &ids)?,
         text: Bytes::from_vec(text_of(alloc, ARTICLE_MAX_OCTETS)?)?,
@@ -151,11 +151,11 @@ fn station_in<R: AllocGlobal + Files<File = File>>(
     }
 }
 
-// Takes this many debts the whole way.
+// Takes `count` debts the whole way.
 fn gone<R: AllocGlobal + Files<File = File>>(
     rt: &R,
     path: &str,
-    feed: &Feed,
+    feed: &WayFeed,
     count: u64,
 ) -> Result<Totals> {
     let mut station = station_in(rt, path)?;
@@ -167,7 +167,7 @@ fn gone<R: AllocGlobal + Files<File = File>>(
 fn send_batches(
     alloc: Global,
     station: &mut Station<FileDisk<TapeFile>>,
-    feed: &Feed,
+    feed: &WayFeed,
     batches: u64,
 ) -> Result<()> {
     let mut conn = streaming(alloc)?;
@@ -181,11 +181,11 @@ fn send_batches(
     Ok(())
 }
 
-// Owes this many debts, and ends there.
+// Owes `count` debts, and ends there.
 fn left<R: AllocGlobal + Files<File = File>>(
     rt: &R,
     path: &str,
-    feed: &Feed,
+    feed: &WayFeed,
     count: u64,
 ) -> Result<Totals> {
     let mut station = station_in(rt, path)?;
@@ -236,7 +236,7 @@ fn claim(station: &mut Station<FileDisk<TapeFile>>) -> Result<Debt> {
     station.claim(CONNECTION, 0)?.context("a debt")
 }
 
-// Sends the articles of as many debts as are under way, and finishes each debt.
+// Sends the articles of the debts under way, and finishes each debt.
 fn send_round(
     station: &mut Station<FileDisk<TapeFile>>,
     conn: &mut Conn,

@@ -1,10 +1,10 @@
 // How fast a world takes funnel lines, compared with its stations alone, and how that changes with many peers.
 //
-// `run COUNT` makes a world of four peers take a script of this many lines, each of which names all four, with a flush
+// `run COUNT` makes a world of four peers take a script of COUNT lines, each of which names all four, with a flush
 // after each 256; the time is that of the run alone, without reading the script and making the world. `owe COUNT` owes
-// the same lines at four stations, with as many flushes; the time is without reading the lines. `read COUNT` only reads
-// them. `named COUNT PEERS` makes a world of this many peers take this many lines, each of which names one of the
-// peers, in turn, with no flush.
+// the same lines at four stations, with the same number of flushes; the time is without reading the lines. `read
+// COUNT` only reads them. `named COUNT PEERS` makes a world of PEERS peers take COUNT lines, each of which names one
+// of the peers, in turn, with no flush.
 use crate::debts::{flush, opened};
 use crate::time::{number, tell};
 use anyhow::{Result, bail};
@@ -104,7 +104,7 @@ fn funnel_lines(alloc: Global, count: u64) -> Result<Vec<String>> {
     Ok(lines)
 }
 
-// A script that declares this many peers and has no steps.
+// A script that declares `peers` peers and has no steps.
 fn declaring(alloc: Global, peers: u64) -> Result<Vec<u8>> {
     let mut text = Vec::new(alloc);
     for peer in 0..peers {
@@ -114,7 +114,7 @@ fn declaring(alloc: Global, peers: u64) -> Result<Vec<u8>> {
     Ok(text)
 }
 
-// A script of four peers and this many lines, each of which names all four.
+// A script of four peers and `count` lines, each of which names all four.
 fn naming_all(alloc: Global, count: u64) -> Result<Vec<u8>> {
     let mut text = declaring(alloc, PEERS)?;
     for number in 0..count {
@@ -129,7 +129,7 @@ fn naming_all(alloc: Global, count: u64) -> Result<Vec<u8>> {
     Ok(text)
 }
 
-// A script of this many peers and this many lines, each of which names one of the peers, in turn.
+// A script of `peers` peers and `count` lines, each of which names one of the peers, in turn.
 fn naming_one(alloc: Global, count: u64, peers: u64) -> Result<Vec<u8>> {
     let mut text = declaring(alloc, peers)?;
     for number in 0..count {
@@ -202,7 +202,7 @@ fn read_each(alloc: Global, lines: &[String]) -> Result<Vec<FunnelLine>> {
     Ok(read)
 }
 
-// Owes this many lines at four stations; the time is that of the stations' calls.
+// Owes `count` lines at four stations; the time is that of the stations' calls.
 fn owed_alone<R: AllocGlobal + Clock>(rt: &R, count: u64) -> Result<Ran> {
     let lines = read_each(rt.alloc(), &funnel_lines(rt.alloc(), count)?)?;
     let mut stations = Vec::new(rt.alloc());

@@ -16,7 +16,7 @@ const LINE_WAIT_US: u64 = 100;
 // After how many lines a flush is ordered.
 const BATCH_LINES: u64 = 64;
 
-/// Takes lines of both peers until this many flushes have ended.
+/// Takes lines of both peers until `count` flushes have ended.
 #[derive(Drop)]
 pub struct TimedIntake<'a, N: Naming> {
     pub alloc: Global,

@@ -2,7 +2,7 @@
 //!
 //! May touch its arguments, the clock, threads and standard output, and the directory that it is given. It stands on
 //! the public calls of flusher. With no argument it runs once, over disks in memory, and prints what is the same on
-//! each run. `DIRECTORY FLUSHES` keeps a post over files of this directory at work until this many flushes have ended,
+//! each run. `DIRECTORY FLUSHES` keeps a post over files of this directory at work until FLUSHES flushes have ended,
 //! and prints `COUNT CALL P nanoseconds` for each kind of call that began while the peer's tape was flushed: 99 of 100
 //! such calls took at most P. `refused` are the calls of `try_claim` that returned `Busy`. bench/latency.sh prints
 //! ratios from it. Nothing stands above it, and it promises nothing.
@@ -43,7 +43,7 @@ use std::time::Clock;
 const FILES: [[&str; 2]; 3] = [["p.a", "p.b"], ["q.a", "q.b"], ["intake.a", "intake.b"]];
 
 // How many debts the second peer is owed at first. Its front has the texts of the last 8,192 debts that were settled.
-const OWED: u64 = 10_000;
+const OWED_DEBTS: u64 = 10_000;
 
 const UNLIMITED: Limits = Limits {
     backlog_limit: 0,
@@ -122,7 +122,7 @@ impl Measured {
     }
 }
 
-// Keeps a post over these disks at work until this many flushes have ended.
+// Keeps a post over these disks at work until `count` flushes have ended.
 fn measure<D: Disk + Drop + Send, R: AllocGlobal + Clock + Log + Threads + Wait + Sync>(
     rt: &R,
     disks: Vec<(D, D)>,
@@ -249,7 +249,7 @@ fn owe<D: Disk, N: Naming, R: AllocGlobal + Wait>(
     post: &Post<D, N>,
     share: &mut IntakeShare<N>,
 ) -> Result<()> {
-    for number in 0..OWED {
+    for number in 0..OWED_DEBTS {
         let line = line_of(rt.alloc(), number, "q")?;
         if post.take_line(rt, line.as_bytes(), share).is_err() {
             bail!("a line was refused");

@@ -9,7 +9,7 @@ use std::alloc::Global;
 const LINE_MAX_OCTETS: usize = 65_536;
 
 #[derive(Clone, Copy)]
-enum Sender {
+enum SendCommand {
     Takethis,
     Ihave,
 }
@@ -17,12 +17,12 @@ enum Sender {
 #[derive(Drop)]
 struct Awaited {
     id: Vec<u8>,
-    sender: Sender,
+    sender: SendCommand,
 }
 
 /// The exchange on one connection.
 #[derive(Drop)]
-pub struct Exchange {
+pub struct PeerExchange {
     alloc: Global,
     input: Vec<u8>,
     // How many octets of the input are read, and up to which index no end of a block was found.
@@ -36,10 +36,10 @@ pub struct Exchange {
     pub ended: bool,
 }
 
-impl Exchange {
+impl PeerExchange {
     /// A new connection: the greeting is to be sent (RFC 3977, section 5.1).
     pub fn new(alloc: Global) -> Result<Self> {
-        Ok(Exchange {
+        Ok(PeerExchange {
             alloc,
             input: Vec::new(alloc),
             read: 0,
@@ -103,12 +103,12 @@ impl Exchange {
                 Wish::Had => self.reply(b"438", rest),
             }
         } else if word.eq_ignore_ascii_case(b"TAKETHIS") {
-            self.await_block(rest, Sender::Takethis)
+            self.await_block(rest, SendCommand::Takethis)
         } else if word.eq_ignore_ascii_case(b"IHAVE") && !rest.is_empty() {
             match history.wish(rest) {
                 Wish::Wanted => {
                     self.reply(b"335", b"send it")?;
-                    self.await_block(rest, Sender::Ihave)
+                    self.await_block(rest, SendCommand::Ihave)
                 }
                 Wish::Later => self.reply(b"436", b"later"),
                 Wish::Had => self.reply(b"435", b"had it"),
@@ -123,7 +123,7 @@ impl Exchange {
         }
     }
 
-    fn await_block(&mut self, id: &[u8], sender: Sender) -> Result<()> {
+    fn await_block(&mut self, id: &[u8], sender: SendCommand) -> Result<()> {
         self.awaited = Some(Awaited {
             id: Vec::from_slice(self.alloc, id)?,
             sender,
@@ -169,10 +169,10 @@ impl Exchange {
 
     fn tell(&mut self, awaited: &Awaited, taken: bool) -> Result<()> {
         match (awaited.sender, taken) {
-            (Sender::Takethis, true) => self.reply(b"239", &awaited.id),
-            (Sender::Takethis, false) => self.reply(b"439", &awaited.id),
-            (Sender::Ihave, true) => self.reply(b"235", b"thanks"),
-            (Sender::Ihave, false) => self.reply(b"437", b"not taken"),
+            (SendCommand::Takethis, true) => self.reply(b"239", &awaited.id),
+            (SendCommand::Takethis, false) => self.reply(b"439", &awaited.id),
+            (SendCommand::Ihave, true) => self.reply(b"235", b"thanks"),
+            (SendCommand::Ihave, false) => self.reply(b"437", b"not taken"),
         }
     }
 

@@ -11,7 +11,7 @@ use std::rt::Files;
 pub struct Habits {
     /// Every `later`th offer is deferred.
     pub later: u64,
-    /// A connection ends after this many articles.
+    /// A connection ends after `close` articles.
     pub close: u64,
 }
 
@@ -104,7 +104,7 @@ impl History {
         Ok(true)
     }
 
-    /// Whether a connection that has taken this many articles should end.
+    /// Whether a connection that has taken `articles` articles should end.
     pub fn is_enough(&self, articles: u64) -> bool {
         self.habits.close > 0 && articles >= self.habits.close
     }

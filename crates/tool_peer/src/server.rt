@@ -1,5 +1,5 @@
 // The connections, in one thread.
-use crate::exchange::Exchange;
+use crate::exchange::PeerExchange;
 use crate::history::History;
 use anyhow::Result;
 use mio::event::Event;
@@ -14,9 +14,9 @@ use std::rt::Files;
 const LISTENER: Token = Token(usize::MAX);
 
 #[derive(Drop)]
-struct Link {
+struct PeerLink {
     stream: TcpStream,
-    exchange: Exchange,
+    exchange: PeerExchange,
     // How many octets of the output are sent.
     sent: usize,
 }
@@ -25,7 +25,7 @@ struct Link {
 struct Server {
     poll: Poll,
     listener: TcpListener,
-    links: Slab<Link>,
+    links: Slab<PeerLink>,
     history: History,
     buffer: Vec<u8>,
 }
@@ -85,9 +85,9 @@ impl Server {
 
     fn add(&mut self, stream: TcpStream) -> Result<()> {
         stream.set_nodelay(true)?;
-        let exchange = Exchange::new(self.history.alloc())?;
+        let exchange = PeerExchange::new(self.history.alloc())?;
         self.links.reserve(1)?;
-        let key = self.links.insert_reserved(Link {
+        let key = self.links.insert_reserved(PeerLink {
             stream,
             exchange,
             sent: 0,
@@ -103,7 +103,7 @@ impl Server {
     }
 }
 
-impl Link {
+impl PeerLink {
     // Reads, answers and sends as far as possible; false if the connection is over.
     fn drive(&mut self, buffer: &mut [u8], history: &mut History) -> Result<bool> {
         let open = self.receive(buffer, history)?;
