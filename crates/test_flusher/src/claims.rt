@@ -4,10 +4,11 @@ ghost use Rattle.std.specs.List.{All};
 ghost use Rattle.flusher.specs.Post.{IsFor, names_of};
 ghost use Rattle.flusher.specs.Sealed.{IsFlushed};
 
-use crate::shared::{closed_sums, intake, peer_with_backlog};
+use crate::shared::{closed_sums, intake, lacks_memory, peer_with_backlog};
 use conn_core::CxnId;
 use disk_model::{Disk, MemDisk};
 use flusher::{Blanks, Naming, Pace, Place, Post, PostFault, PostPeer, Who};
+use ledger_core::Debt;
 use recovery::Tape;
 use std::alloc::Global;
 use std::marker::Brand;
@@ -16,7 +17,7 @@ use std::sync::atomic::{AtomicU64, Ordering};
 use std::test::*;
 
 // What stands for the number of a claim that gives none.
-const NONE: u64 = 1_000;
+const NO_DEBT: u64 = 1_000;
 
 const BUSY: u64 = 1_001;
 
@@ -47,17 +48,30 @@ fn claimed<D: Disk, N: Naming, R: Wait>(rt: &R, post: &Post<D, N>) -> u64 {
     if post.peers() == 0 {
         return REFUSED;
     }
-    match post.try_claim(rt, 0, CxnId(1), 0) {
+    match claim_at_last(rt, post) {
         Ok(Some(debt)) => debt.key().number(),
-        Ok(None) => NONE,
+        Ok(None) => NO_DEBT,
         Err(PostFault::Busy { .. }) => BUSY,
         Err(_) => REFUSED,
     }
 }
 
+// Claims a debt of the first peer, and doesn't wait; if memory is refused, once more.
+fn claim_at_last<D: Disk, N: Naming, R: Wait>(
+    rt: &R,
+    post: &Post<D, N>,
+) -> Result<Option<Debt>, PostFault>
+    requires { 0 < length post.now.names }
+{
+    match post.try_claim(rt, 0, CxnId(1), 0) {
+        Err(fault) if lacks_memory(&fault) => post.try_claim(rt, 0, CxnId(1), 0),
+        claimed => claimed,
+    }
+}
+
 // What the claims give during the flush and after it.
 #[derive(Clone, Copy, Debug, PartialEq, Eq)]
-struct Told {
+struct FlushClaims {
     first: u64,
     second: u64,
     then: u64,
@@ -69,15 +83,15 @@ struct Told {
 fn flushed<'a, D: Disk, N: Naming, R: Wait>(
     rt: &'a R,
     post: &'a Post<D, N>,
-) -> Result<Told, PostFault> {
+) -> Result<FlushClaims, PostFault> {
     let pace = Asking {
         rt,
         post,
-        first: AtomicU64::new(NONE),
-        second: AtomicU64::new(NONE),
+        first: AtomicU64::new(NO_DEBT),
+        second: AtomicU64::new(NO_DEBT),
     };
     let receipt = post.flush_all(rt, &pace)?.number();
-    Ok(Told {
+    Ok(FlushClaims {
         first: pace.first.load(Ordering::SeqCst),
         second: pace.second.load(Ordering::SeqCst),
         then: claimed(rt, post),
@@ -92,18 +106,18 @@ fn run_steps<D: Disk + Drop, N: Naming, R: Wait>(
     peers: Vec<PostPeer<D>>,
     intake: Tape<D>,
     blanks: Blanks,
-) -> Result<Told, Fail>
+) -> Result<FlushClaims, Fail>
     requires names { N.names ≡ names_of blanks peers.items }
     requires blanks { IsFor (length peers.items) blanks }
     requires flushed { All (λ p. IsFlushed p.station) peers.items }
 {
     let (post, mut lines, first, second, third) = Post::<D, N>::new(alloc, peers, intake, blanks)?;
     post.take_line(rt, b"a/1 <x@y> p", &mut lines)?;
-    let told = flushed(rt, &post)?;
+    let claims = flushed(rt, &post)?;
     let sums = closed_sums(rt, post, lines, first, second, third)?;
-    Ok(Told {
+    Ok(FlushClaims {
         taken: sums.taken,
-        ..told
+        ..claims
     })
 }
 
@@ -112,7 +126,7 @@ fn on_disks<R: Wait>(
     alloc: Global,
     peer: PostPeer<MemDisk>,
     intake: Tape<MemDisk>,
-) -> Result<Told, Fail>
+) -> Result<FlushClaims, Fail>
     requires { IsFlushed peer.station }
 {
     let peers = vec![in alloc; peer]?;
@@ -125,19 +139,19 @@ fn on_disks<R: Wait>(
 #[test]
 fn what_only_the_tape_has_is_refused_in_its_flush(rt: HostRuntime) -> Result<(), Fail> {
     let alloc = rt.alloc();
-    let told = on_disks(
+    let claims = on_disks(
         &rt,
         alloc,
         peer_with_backlog(alloc, b"p", 7)?,
         intake(alloc)?,
     )?;
-    let want = Told {
+    let want = FlushClaims {
         first: 1,
         second: BUSY,
         then: 7,
         receipt: 1,
         taken: 1,
     };
-    assert_eq!(rt; told, want);
+    assert_eq!(rt; claims, want);
     Ok(())
 }

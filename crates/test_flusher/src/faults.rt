@@ -4,13 +4,13 @@ ghost use Rattle.std.specs.List.{All};
 ghost use Rattle.flusher.specs.Post.{IsFor, names_of};
 ghost use Rattle.flusher.specs.Sealed.{IsFlushed};
 
-use crate::shared::{Ending, counted_on_disks, fused_intake, fused_peer, outcome};
-use conn_core::CxnId;
+use crate::shared::{DebtEnding, counted_on_disks, fused_intake, fused_peer, outcome};
+use conn_core::{CxnId, Outcome};
 use disk_model::{Disk, FuseDisk, MemDisk};
 use flusher::{
-    Blanks, ClosedPost, FeederShare, Free, Naming, Post, PostFault, PostPeer, Receipt, Reported,
+    Blanks, ClosedPost, FeederShare, Free, IntakeShare, Naming, Post, PostFault, PostPeer, Reported,
 };
-use peer_queue::{Limits, StationFault};
+use peer_queue::{Limits, Settled, StationFault};
 use recovery::{Tape, TapeFault};
 use std::alloc::Global;
 use std::marker::Brand;
@@ -34,13 +34,21 @@ struct Figures {
     has_failed: bool,
 }
 
-// What comes of it if the tape of the second of three peers fails at the second flush, after each peer has answered.
+// What the second of three peers answers when its tape fails, at the second flush, and after that.
 #[derive(Clone, Copy, Debug, PartialEq, Eq)]
-struct Told {
-    first: Result<u64, PostFault>,
-    second: Result<u64, PostFault>,
-    working: Result<(), PostFault>,
-    third: Result<u64, PostFault>,
+struct Refusals {
+    flush: StationFault,
+    finish: StationFault,
+    claim: StationFault,
+    take_line: StationFault,
+    next_flush: StationFault,
+}
+
+// What comes of it, after each peer has answered.
+#[derive(Clone, Copy, Debug, PartialEq, Eq)]
+struct AfterFault {
+    receipt: u64,
+    refusals: Refusals,
     reported: [Figures; 3],
     // How much is owed, and was answered, at each station once it is opened again.
     on_disks: [(u64, u64); 3],
@@ -54,10 +62,12 @@ fn figures_of(reported: Reported) -> Figures {
     }
 }
 
-fn number(told: Result<Receipt, PostFault>) -> Result<u64, PostFault> {
-    match told {
-        Ok(receipt) => Ok(receipt.number()),
-        Err(fault) => Err(fault),
+// The fault of the second peer that a call is refused for. Any other answer, as for lack of memory, ends the test.
+fn second_fault<T: Drop>(answer: Result<T, PostFault>) -> Result<StationFault, Fail> {
+    match answer {
+        Ok(_) => Err(Fail::from("a refusal")),
+        Err(PostFault::Station { peer: 1, fault }) if fault != StationFault::NoMemory => Ok(fault),
+        Err(fault) => Err(Fail::from(fault)),
     }
 }
 
@@ -73,11 +83,55 @@ fn answer<D: Disk, N: Naming, R: Wait>(
 {
     let connection = CxnId(1);
     let debt = post.claim(rt, peer, connection, 0)?.ok_or("a debt")?;
-    let outcome = outcome(alloc, connection, debt, Ending::NotWanted)?;
+    let outcome = outcome(alloc, connection, debt, DebtEnding::NotWanted)?;
     match post.finish(rt, peer, connection, outcome, 0, share) {
         Ok(_) => Ok(()),
         Err((_, fault)) => Err(Fail::from(fault)),
     }
+}
+
+// An outcome of the second peer's next debt.
+fn second_outcome<D: Disk, N: Naming, R: Wait>(
+    rt: &R,
+    alloc: Global,
+    post: &Post<D, N>,
+    connection: CxnId,
+) -> Result<Outcome, Fail>
+    requires { 1 < length post.now.names }
+{
+    let debt = post.claim(rt, 1, connection, 0)?.ok_or("a debt")?;
+    outcome(alloc, connection, debt, DebtEnding::NotWanted)
+}
+
+// A flush at which the second peer's tape fails, calls of that peer after it, and a flush of the others.
+//
+// proof: over a borrowed post, so that no way out of a step drops the post and its shares.
+fn call_broken_peer<D: Disk, N: Naming, R: Wait>(
+    rt: &R,
+    alloc: Global,
+    post: &Post<D, N>,
+    lines: &mut IntakeShare<N>,
+    share: &mut FeederShare<N>,
+) -> Result<Refusals, Fail>
+    requires { 1 < length post.now.names }
+{
+    let connection = CxnId(2);
+    let outcome = second_outcome(rt, alloc, post, connection)?;
+    let flush = second_fault(post.flush_all(rt, &Free))?;
+    let finish = match post.finish(rt, 1, connection, outcome, 0, share) {
+        Ok(settled) => second_fault(Ok(settled))?,
+        Err((_, fault)) => second_fault::<Settled>(Err(fault))?,
+    };
+    let claim = second_fault(post.claim(rt, 1, connection, 0))?;
+    let take_line = second_fault(post.take_line(rt, b"a/1 <x@y> q", lines))?;
+    post.flush_working(rt, &Free)?;
+    Ok(Refusals {
+        flush,
+        finish,
+        claim,
+        take_line,
+        next_flush: second_fault(post.flush_all(rt, &Free))?,
+    })
 }
 
 fn run_steps<N: Naming, R: Wait>(
@@ -86,7 +140,7 @@ fn run_steps<N: Naming, R: Wait>(
     peers: Vec<PostPeer<FuseDisk<MemDisk>>>,
     intake: Tape<FuseDisk<MemDisk>>,
     blanks: Blanks,
-) -> Result<Told, Fail>
+) -> Result<AfterFault, Fail>
     requires names { N.names ≡ names_of blanks peers.items }
     requires blanks { IsFor (length peers.items) blanks }
     requires flushed { All (λ p. IsFlushed p.station) peers.items }
@@ -98,47 +152,27 @@ fn run_steps<N: Naming, R: Wait>(
         return Err(Fail::from("three peers"));
     }
     post.take_line(rt, b"a/1 <x@y> p q r", &mut lines)?;
-    let told = Told {
-        first: number(post.flush_all(rt, &Free)),
-        ..NOTHING
-    };
+    post.take_line(rt, b"a/2 <z@y> q", &mut lines)?;
+    let receipt = post.flush_all(rt, &Free)?.number();
     for peer in 0..3usize {
         answer(rt, alloc, &post, peer, &mut share)?;
     }
-    let told = Told {
-        second: number(post.flush_all(rt, &Free)),
-        working: post.flush_working(rt, &Free),
-        third: number(post.flush_all(rt, &Free)),
-        reported: [
-            figures_of(post.reported(rt, 0)),
-            figures_of(post.reported(rt, 1)),
-            figures_of(post.reported(rt, 2)),
-        ],
-        ..told
-    };
+    let refusals = call_broken_peer(rt, alloc, &post, &mut lines, &mut share)?;
+    let reported = [
+        figures_of(post.reported(rt, 0)),
+        figures_of(post.reported(rt, 1)),
+        figures_of(post.reported(rt, 2)),
+    ];
     let Ok(closed) = post.close(rt, lines, share, second, third) else {
         return Err(Fail::from("memory"));
     };
-    Ok(Told {
+    Ok(AfterFault {
+        receipt,
+        refusals,
+        reported,
         on_disks: counts(alloc, closed)?,
-        ..told
     })
 }
-
-const NO_FIGURES: Figures = Figures {
-    owed: 0,
-    answered: 0,
-    has_failed: false,
-};
-
-const NOTHING: Told = Told {
-    first: Ok(0),
-    second: Ok(0),
-    working: Ok(()),
-    third: Ok(0),
-    reported: [NO_FIGURES; 3],
-    on_disks: [(0, 0); 3],
-};
 
 fn counts(alloc: Global, closed: ClosedPost<FuseDisk<MemDisk>>) -> Result<[(u64, u64); 3], Fail> {
     let mut counts = [(0, 0); 3];
@@ -158,23 +192,13 @@ fn on_disks<R: Wait>(
     second: PostPeer<FuseDisk<MemDisk>>,
     third: PostPeer<FuseDisk<MemDisk>>,
     intake: Tape<FuseDisk<MemDisk>>,
-) -> Result<Told, Fail>
+) -> Result<AfterFault, Fail>
     requires { IsFlushed first.station × IsFlushed second.station × IsFlushed third.station }
 {
     let peers = vec![in alloc; first, second, third]?;
     let blanks = Blanks::new(alloc, 3)?;
     run_steps::<Brand, R>(rt, alloc, peers, intake, blanks)
 }
-
-const BROKEN: PostFault = PostFault::Station {
-    peer: 1,
-    fault: StationFault::Broken,
-};
-
-const FAILED: PostFault = PostFault::Station {
-    peer: 1,
-    fault: StationFault::Tape(TapeFault::Disk),
-};
 
 const ANSWERED: Figures = Figures {
     owed: 0,
@@ -183,21 +207,25 @@ const ANSWERED: Figures = Figures {
 };
 
 // The flush that fails leaves the third peer's answer pending; the flush of the stations that work puts it on the disk.
-const WANT: Told = Told {
-    first: Ok(1),
-    second: Err(FAILED),
-    working: Ok(()),
-    third: Err(BROKEN),
+const WANT: AfterFault = AfterFault {
+    receipt: 2,
+    refusals: Refusals {
+        flush: StationFault::Tape(TapeFault::Disk),
+        finish: StationFault::Broken,
+        claim: StationFault::Broken,
+        take_line: StationFault::Broken,
+        next_flush: StationFault::Broken,
+    },
     reported: [
         ANSWERED,
         Figures {
-            owed: 1,
+            owed: 2,
             answered: 0,
             has_failed: true,
         },
         ANSWERED,
     ],
-    on_disks: [(0, 1), (1, 0), (0, 1)],
+    on_disks: [(0, 1), (2, 0), (0, 1)],
 };
 
 #[test]
@@ -206,7 +234,7 @@ fn answers_of_other_peers_reach_their_disks(rt: HostRuntime) -> Result<(), Fail>
     let first = fused_peer(alloc, b"p", UNLIMITED, u64::MAX)?;
     let second = fused_peer(alloc, b"q", UNLIMITED, FLUSH_CALLS)?;
     let third = fused_peer(alloc, b"r", UNLIMITED, u64::MAX)?;
-    let told = on_disks(&rt, alloc, first, second, third, fused_intake(alloc)?)?;
-    assert_eq!(rt; told, WANT);
+    let after = on_disks(&rt, alloc, first, second, third, fused_intake(alloc)?)?;
+    assert_eq!(rt; after, WANT);
     Ok(())
 }

@@ -25,7 +25,7 @@ const UNLIMITED: Limits = Limits {
 
 // What comes of two lines, if at most one allocation is refused.
 #[derive(Clone, Copy, Debug, PartialEq, Eq)]
-struct Told {
+struct KeptNotes {
     last: u64,
     receipt: u64,
     // What the peer's station has taken once it is opened again.
@@ -47,7 +47,7 @@ fn take<N: Naming, R: Wait>(
                 ..
             },
         ) => post.take_line(rt, line, lines),
-        told => told,
+        taken => taken,
     }
 }
 
@@ -89,7 +89,7 @@ fn run_steps<N: Naming, R: Wait>(
     peers: Vec<PostPeer<FuseDisk<MemDisk>>>,
     intake: Tape<FuseDisk<MemDisk>>,
     blanks: Blanks,
-) -> Result<Told, Fail>
+) -> Result<KeptNotes, Fail>
     requires names { N.names ≡ names_of blanks peers.items }
     requires blanks { IsFor (length peers.items) blanks }
     requires flushed { All (λ p. IsFlushed p.station) peers.items }
@@ -103,7 +103,7 @@ fn run_steps<N: Naming, R: Wait>(
     let receipt = flush(rt, &post)?;
     let ClosedPost { peers, .. } = close(rt, post, lines, (first, second, third))?;
     let peer = peers.into_iter().next().ok_or("a peer")?;
-    Ok(Told {
+    Ok(KeptNotes {
         last,
         receipt,
         on_disk: counted_on_disks(alloc, peer)?.taken,
@@ -115,7 +115,7 @@ fn on_disks<R: Wait>(
     alloc: Global,
     peer: PostPeer<FuseDisk<MemDisk>>,
     intake: Tape<FuseDisk<MemDisk>>,
-) -> Result<Told, Fail>
+) -> Result<KeptNotes, Fail>
     requires { IsFlushed peer.station }
 {
     let peers = vec![in alloc; peer]?;
@@ -128,12 +128,12 @@ fn on_disks<R: Wait>(
 fn both_notes_reach_the_tape(rt: HostRuntime) -> Result<(), Fail> {
     let alloc = rt.alloc();
     let peer = fused_peer(alloc, b"p", UNLIMITED, u64::MAX)?;
-    let told = on_disks(&rt, alloc, peer, fused_intake(alloc)?)?;
-    let want = Told {
+    let kept = on_disks(&rt, alloc, peer, fused_intake(alloc)?)?;
+    let want = KeptNotes {
         last: 2,
         receipt: 2,
         on_disk: 2,
     };
-    assert_eq!(rt; told, want);
+    assert_eq!(rt; kept, want);
     Ok(())
 }

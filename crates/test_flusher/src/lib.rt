@@ -18,6 +18,8 @@ mod pace;
 #[cfg(test)]
 mod posts;
 #[cfg(test)]
+mod reads;
+#[cfg(test)]
 mod rooms;
 #[cfg(test)]
 mod shared;

@@ -38,7 +38,7 @@ const CALLS: u64 = 23 + 5;
 
 // What comes of the lines and of three flushes.
 #[derive(Clone, Copy, Debug, PartialEq, Eq)]
-struct Told {
+struct FullFlushes {
     taken: u64,
     refused: u64,
     full: Result<u64, PostFault>,
@@ -49,8 +49,8 @@ struct Told {
     on_disk: u64,
 }
 
-fn number(told: Result<Receipt, PostFault>) -> Result<u64, PostFault> {
-    match told {
+fn number(flushed: Result<Receipt, PostFault>) -> Result<u64, PostFault> {
+    match flushed {
         Ok(receipt) => Ok(receipt.number()),
         Err(fault) => Err(fault),
     }
@@ -77,7 +77,7 @@ fn filled<N: Naming, R: Wait>(
     peers: Vec<PostPeer<FuseDisk<MemDisk>>>,
     intake: Tape<FuseDisk<MemDisk>>,
     blanks: Blanks,
-) -> Result<Told, Fail>
+) -> Result<FullFlushes, Fail>
     requires names { N.names ≡ names_of blanks peers.items }
     requires blanks { IsFor (length peers.items) blanks }
     requires flushed { All (λ p. IsFlushed p.station) peers.items }
@@ -91,7 +91,7 @@ fn filled<N: Naming, R: Wait>(
     let rest = number(post.flush_all(rt, &Free));
     take(rt, &post, &mut lines, 1);
     let last = number(post.flush_all(rt, &Free));
-    Ok(Told {
+    Ok(FullFlushes {
         taken,
         refused,
         full,
@@ -122,7 +122,7 @@ fn filled_on_disks<R: Wait>(
     alloc: Global,
     peer: PostPeer<FuseDisk<MemDisk>>,
     intake: Tape<FuseDisk<MemDisk>>,
-) -> Result<Told, Fail>
+) -> Result<FullFlushes, Fail>
     requires { IsFlushed peer.station }
 {
     let peers = vec![in alloc; peer]?;
@@ -135,8 +135,8 @@ fn filled_on_disks<R: Wait>(
 fn a_full_front_is_flushed_at_once(rt: HostRuntime) -> Result<(), Fail> {
     let alloc = rt.alloc();
     let peer = fused_peer(alloc, b"p", UNLIMITED, CALLS)?;
-    let told = filled_on_disks(&rt, alloc, peer, fused_intake(alloc)?)?;
-    let want = Told {
+    let flushes = filled_on_disks(&rt, alloc, peer, fused_intake(alloc)?)?;
+    let want = FullFlushes {
         taken: 65_536,
         refused: 4_464,
         full: Ok(65_536),
@@ -147,24 +147,24 @@ fn a_full_front_is_flushed_at_once(rt: HostRuntime) -> Result<(), Fail> {
         }),
         on_disk: 70_000,
     };
-    assert_eq!(rt; told, want);
+    assert_eq!(rt; flushes, want);
     Ok(())
 }
 
 // How many lines are taken while others are flushed, and after how many of them a flush is ordered.
-const BESIDE: u64 = 5_000;
+const BESIDE_FLUSHES_LINES: u64 = 5_000;
 
-const BATCH: u64 = 50;
+const BETWEEN_ORDERS_LINES: u64 = 50;
 
 // The intake. It takes its lines, waits only for the last flush that it orders, and keeps that one's receipt.
 #[derive(Drop)]
-struct Taker<N: Naming> {
+struct LineTaker<N: Naming> {
     share: IntakeShare<N>,
     taken: u64,
     receipt: u64,
 }
 
-impl<D: Disk, N: Naming> Work<D, N> for Taker<N> {
+impl<D: Disk, N: Naming> Work<D, N> for LineTaker<N> {
     fn run<R: AllocGlobal + Wait + Clock + Log, P: Pace>(
         &mut self,
         rt: &R,
@@ -172,11 +172,11 @@ impl<D: Disk, N: Naming> Work<D, N> for Taker<N> {
         signals: &Signals,
         _pace: &P,
     ) {
-        for line in 0..BESIDE {
+        for line in 0..BESIDE_FLUSHES_LINES {
             if post.take_line(rt, LINE, &mut self.share).is_ok() {
                 self.taken = line + 1;
             }
-            if line % BATCH == 0 {
+            if line % BETWEEN_ORDERS_LINES == 0 {
                 signals.order();
             }
         }
@@ -227,7 +227,7 @@ fn flushed_beside<N: Naming + Send + Sync, R: AllocGlobal + Clock + Log + Thread
     let (post, share, first, second, third) = Post::<FuseDisk<MemDisk>, N>::new(
         alloc, peers, intake, blanks,
     )?;
-    let mut taker = Taker {
+    let mut taker = LineTaker {
         share,
         taken: 0,
         receipt: 0,
@@ -249,7 +249,7 @@ fn flushed_beside<N: Naming + Send + Sync, R: AllocGlobal + Clock + Log + Thread
         share: third,
         fault,
     } = flusher;
-    let Taker {
+    let LineTaker {
         share,
         taken,
         receipt,

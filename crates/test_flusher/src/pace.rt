@@ -6,7 +6,7 @@ use std::thread;
 // How many turns one that waits takes at most, so that a test ends, and how often others go before it in a turn.
 const TURNS_MAX: u32 = 10_000;
 
-const YIELDS: u32 = 1_000;
+const TURN_YIELDS: u32 = 1_000;
 
 // A worker at a place.
 #[derive(Clone, Copy, PartialEq, Eq)]
@@ -49,7 +49,7 @@ impl Meeting {
             if came.load(Ordering::SeqCst) {
                 return;
             }
-            for _ in 0..YIELDS {
+            for _ in 0..TURN_YIELDS {
                 thread::yield_now();
             }
         }

@@ -4,7 +4,7 @@ ghost use Rattle.std.specs.List.{All};
 ghost use Rattle.flusher.specs.Post.{IsFor, names_of};
 ghost use Rattle.flusher.specs.Sealed.{IsFlushed};
 
-use crate::shared::{Ending, closed_sums, intake, outcome, peer};
+use crate::shared::{DebtEnding, closed_sums, intake, outcome, peer};
 use conn_core::CxnId;
 use disk_model::{Disk, MemDisk};
 use flusher::{Blanks, FeederShare, Free, IntakeShare, Naming, Post, PostFault, PostPeer};
@@ -40,7 +40,7 @@ fn finish<D: Disk, N: Naming, R: Wait>(
     alloc: Global,
     post: &Post<D, N>,
     connection: CxnId,
-    ending: Ending,
+    ending: DebtEnding,
     share: &mut FeederShare<N>,
 ) -> Result<(u64, Settled), Fail>
     requires { 0 < length post.now.names }
@@ -67,7 +67,7 @@ fn claim_number<D: Disk, N: Naming, R: Wait>(
 
 // What comes of twelve debts of ten octets, of which at most a hundred octets are kept.
 #[derive(Debug, PartialEq, Eq, Drop)]
-struct Told {
+struct ShedAndAgain {
     shed: Vec<Key>,
     again: Again,
     dropped: u64,
@@ -107,10 +107,10 @@ fn claim_again<D: Disk, N: Naming, R: Wait>(
 ) -> Result<Again, Fail>
     requires { 0 < length post.now.names }
 {
-    let back = finish(rt, alloc, post, CxnId(1), Ending::Broken, share)?;
+    let back = finish(rt, alloc, post, CxnId(1), DebtEnding::Broken, share)?;
     let claimed = claim_number(rt, post, CxnId(2), 0)?;
     let released = post.release(rt, 0, CxnId(2));
-    let later = finish(rt, alloc, post, CxnId(3), Ending::WantedLater, share)?;
+    let later = finish(rt, alloc, post, CxnId(3), DebtEnding::WantedLater, share)?;
     Ok(Again {
         back,
         claimed,
@@ -124,17 +124,17 @@ fn claim_again<D: Disk, N: Naming, R: Wait>(
 // What comes of the steps before the post is closed.
 //
 // proof: over a borrowed post, so that no way out of a step drops the post and its shares.
-fn steps_told<D: Disk, N: Naming, R: Wait>(
+fn take_steps<D: Disk, N: Naming, R: Wait>(
     rt: &R,
     alloc: Global,
     post: &Post<D, N>,
     lines: &mut IntakeShare<N>,
     share: &mut FeederShare<N>,
-) -> Result<Told, Fail> {
+) -> Result<ShedAndAgain, Fail> {
     if post.peers() == 0 {
         return Err(Fail::from("a peer"));
     }
-    Ok(Told {
+    Ok(ShedAndAgain {
         shed: take_and_shed(rt, post, lines, share)?,
         again: claim_again(rt, alloc, post, share)?,
         dropped: 0,
@@ -147,7 +147,7 @@ fn run_steps<D: Disk + Drop, N: Naming, R: Wait>(
     peers: Vec<PostPeer<D>>,
     intake: Tape<D>,
     blanks: Blanks,
-) -> Result<Told, Fail>
+) -> Result<ShedAndAgain, Fail>
     requires names { N.names ≡ names_of blanks peers.items }
     requires blanks { IsFor (length peers.items) blanks }
     requires flushed { All (λ p. IsFlushed p.station) peers.items }
@@ -155,11 +155,11 @@ fn run_steps<D: Disk + Drop, N: Naming, R: Wait>(
     let (post, mut lines, mut share, second, third) = Post::<D, N>::new(
         alloc, peers, intake, blanks,
     )?;
-    let told = steps_told(rt, alloc, &post, &mut lines, &mut share)?;
+    let shed = take_steps(rt, alloc, &post, &mut lines, &mut share)?;
     let sums = closed_sums(rt, post, lines, share, second, third)?;
-    Ok(Told {
+    Ok(ShedAndAgain {
         dropped: sums.dropped,
-        ..told
+        ..shed
     })
 }
 
@@ -168,7 +168,7 @@ fn on_disks<R: Wait>(
     alloc: Global,
     peer: PostPeer<MemDisk>,
     intake: Tape<MemDisk>,
-) -> Result<Told, Fail>
+) -> Result<ShedAndAgain, Fail>
     requires { IsFlushed peer.station }
 {
     let peers = vec![in alloc; peer]?;
@@ -179,8 +179,8 @@ fn on_disks<R: Wait>(
 #[test]
 fn what_is_not_sent_comes_again(rt: HostRuntime) -> Result<(), Fail> {
     let alloc = rt.alloc();
-    let told = on_disks(&rt, alloc, peer(alloc, b"p", LIMITED)?, intake(alloc)?)?;
-    let want = Told {
+    let shed = on_disks(&rt, alloc, peer(alloc, b"p", LIMITED)?, intake(alloc)?)?;
+    let want = ShedAndAgain {
         shed: vec![in alloc; Key::new(0, 1), Key::new(0, 2)]?,
         again: Again {
             back: (3, Settled::Ready),
@@ -192,7 +192,7 @@ fn what_is_not_sent_comes_again(rt: HostRuntime) -> Result<(), Fail> {
         },
         dropped: 2,
     };
-    assert_eq!(rt; told, want);
+    assert_eq!(rt; shed, want);
     Ok(())
 }
 
@@ -227,7 +227,7 @@ fn take<D: Disk, N: Naming, R: Wait>(
                 ..
             },
         ) => post.take_line(rt, line, lines),
-        told => told,
+        taken => taken,
     }
 }
 
@@ -290,7 +290,7 @@ fn a_line_refused_at_its_second_peer_is_taken_once(rt: HostRuntime) -> Result<()
     let alloc = rt.alloc();
     let first = peer(alloc, b"p", LIMITED)?;
     let second = peer(alloc, b"q", LIMITED)?;
-    let told = fill_disks(&rt, alloc, first, second, intake(alloc)?)?;
+    let filled = fill_disks(&rt, alloc, first, second, intake(alloc)?)?;
     let want = Filled {
         half: (false, true, false),
         refused: PostFault::Station {
@@ -300,6 +300,6 @@ fn a_line_refused_at_its_second_peer_is_taken_once(rt: HostRuntime) -> Result<()
         number: PENDING_MAX_NOTES + 1,
         taken: PENDING_MAX_NOTES + 2,
     };
-    assert_eq!(rt; told, want);
+    assert_eq!(rt; filled, want);
     Ok(())
 }

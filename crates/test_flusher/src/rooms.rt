@@ -23,7 +23,7 @@ const UNLIMITED: Limits = Limits {
 };
 
 #[derive(Clone, Copy)]
-enum Step {
+enum RoomStep {
     // Room for this many debts is asked for, and whether it was counted.
     Take(u64, bool),
     Give(u64),
@@ -31,26 +31,26 @@ enum Step {
 }
 
 // What is asked of the room at a peer that is owed two debts.
-const STEPS: [Step; 16] = [
-    Step::Take(1, true),
-    Step::Take(1, true),
-    Step::Take(1, false),
-    Step::Give(1),
-    Step::Take(20, true),
-    Step::Take(1, false),
-    Step::Fail(true),
-    Step::Take(1, true),
-    Step::Take(u64::MAX, true),
-    Step::Fail(false),
-    Step::Take(1, false),
-    Step::Give(u64::MAX),
-    Step::Take(2, true),
-    Step::Give(5),
-    Step::Take(2, true),
-    Step::Take(1, false),
+const STEPS: [RoomStep; 16] = [
+    RoomStep::Take(1, true),
+    RoomStep::Take(1, true),
+    RoomStep::Take(1, false),
+    RoomStep::Give(1),
+    RoomStep::Take(20, true),
+    RoomStep::Take(1, false),
+    RoomStep::Fail(true),
+    RoomStep::Take(1, true),
+    RoomStep::Take(u64::MAX, true),
+    RoomStep::Fail(false),
+    RoomStep::Take(1, false),
+    RoomStep::Give(u64::MAX),
+    RoomStep::Take(2, true),
+    RoomStep::Give(5),
+    RoomStep::Take(2, true),
+    RoomStep::Take(1, false),
 ];
 
-fn play<D: Disk, N: Naming, A: Abort>(rt: &A, post: &Post<D, N>, steps: &[Step])
+fn play<D: Disk, N: Naming, A: Abort>(rt: &A, post: &Post<D, N>, steps: &[RoomStep])
     requires { 0 < length post.now.names }
 {
     for (at, step) in steps.iter().enumerate() {
@@ -58,21 +58,21 @@ fn play<D: Disk, N: Naming, A: Abort>(rt: &A, post: &Post<D, N>, steps: &[Step])
     }
 }
 
-fn take_step<D: Disk, N: Naming, A: Abort>(rt: &A, post: &Post<D, N>, at: usize, step: Step)
+fn take_step<D: Disk, N: Naming, A: Abort>(rt: &A, post: &Post<D, N>, at: usize, step: RoomStep)
     requires { 0 < length post.now.names }
 {
     match step {
-        Step::Take(room, want) => {
+        RoomStep::Take(room, want) => {
             assert_eq!(rt; post.try_take_room(0, room), Some(want), "step {at}");
         }
-        Step::Give(room) => post.give_room(0, room),
-        Step::Fail(is_failing) => post.set_failing(0, is_failing),
+        RoomStep::Give(room) => post.give_room(0, room),
+        RoomStep::Fail(is_failing) => post.set_failing(0, is_failing),
     }
 }
 
 // What comes of a debt that is put off at the first peer, and then again by a connection that does not hold it.
 #[derive(Clone, Copy, Debug, PartialEq, Eq)]
-struct Told {
+struct PutOffDebts {
     // The debt that is claimed before the moment, and at the moment.
     before: u64,
     then: u64,
@@ -115,7 +115,7 @@ fn run_steps<D: Disk + Drop, N: Naming, R: Abort + Wait>(
     peers: Vec<PostPeer<D>>,
     intake: Tape<D>,
     blanks: Blanks,
-) -> Result<Told, Fail>
+) -> Result<PutOffDebts, Fail>
     requires names { N.names ≡ names_of blanks peers.items }
     requires blanks { IsFor (length peers.items) blanks }
     requires flushed { All (λ p. IsFlushed p.station) peers.items }
@@ -130,7 +130,7 @@ fn run_steps<D: Disk + Drop, N: Naming, R: Abort + Wait>(
     let refused = put_off(rt, &post)?;
     let before = claimed(rt, &post, CxnId(3), 59)?;
     let then = claimed(rt, &post, CxnId(3), 60)?;
-    Ok(Told {
+    Ok(PutOffDebts {
         before,
         then,
         refused,
@@ -143,7 +143,7 @@ fn on_disks<R: Abort + Wait>(
     alloc: Global,
     peer: PostPeer<MemDisk>,
     intake: Tape<MemDisk>,
-) -> Result<Told, Fail>
+) -> Result<PutOffDebts, Fail>
     requires { IsFlushed peer.station }
 {
     let peers = vec![in alloc; peer]?;
@@ -154,8 +154,8 @@ fn on_disks<R: Abort + Wait>(
 #[test]
 fn rooms_are_counted_and_what_is_put_off_is_not(rt: HostRuntime) -> Result<(), Fail> {
     let alloc = rt.alloc();
-    let told = on_disks(&rt, alloc, peer(alloc, b"p", UNLIMITED)?, intake(alloc)?)?;
-    let want = Told {
+    let debts = on_disks(&rt, alloc, peer(alloc, b"p", UNLIMITED)?, intake(alloc)?)?;
+    let want = PutOffDebts {
         before: 2,
         then: 1,
         refused: (
@@ -171,6 +171,6 @@ fn rooms_are_counted_and_what_is_put_off_is_not(rt: HostRuntime) -> Result<(), F
             dropped: 0,
         },
     };
-    assert_eq!(rt; told, want);
+    assert_eq!(rt; debts, want);
     Ok(())
 }

@@ -3,13 +3,13 @@ ghost use Rattle.std.specs.Prelude.{IfOk};
 ghost use Rattle.flusher.specs.Sealed.{IsFlushed};
 
 use conn_core::{Conn, CxnId, Options, Outcome};
-use disk_model::{Disk, FuseDisk, MemDisk};
-use flusher::{ClosedPeer, FeederShare, IntakeShare, Naming, Post, PostPeer, Sums};
+use disk_model::{Disk, FlakyDisk, FuseDisk, MemDisk};
+use flusher::{ClosedPeer, FeederShare, IntakeShare, Naming, Post, PostFault, PostPeer, Sums};
 use funnel::{PeerName, read_backlog_line};
 use ledger_core::{Debt, Totals};
 use note_queue::Joined;
-use peer_queue::{Limits, Station};
-use recovery::Tape;
+use peer_queue::{Limits, Station, StationFault};
+use recovery::{Tape, TapeFault};
 use std::alloc::Global;
 use std::sync::Wait;
 use std::test::Fail;
@@ -32,9 +32,12 @@ const UNLIMITED: Limits = Limits {
 // How many calls of its first disk the opening of a station with empty disks makes.
 const OPENING_CALLS: u64 = 5;
 
+// And the flush of one debt from a backlog file.
+const BACKLOG_FLUSH_CALLS: u64 = 4;
+
 // How a debt ends at a connection.
 #[derive(Clone, Copy)]
-pub(crate) enum Ending {
+pub(crate) enum DebtEnding {
     NotWanted,
     WantedLater,
     Broken,
@@ -45,7 +48,7 @@ pub(crate) fn outcome(
     alloc: Global,
     connection: CxnId,
     debt: Debt,
-    ending: Ending,
+    ending: DebtEnding,
 ) -> Result<Outcome, Fail> {
     let mut conn = holding(alloc, connection, debt)?;
     come_to(&mut conn, ending)?;
@@ -66,11 +69,11 @@ fn holding(alloc: Global, connection: CxnId, debt: Debt) -> Result<Conn, Fail> {
 }
 
 // Makes a connection end its debt.
-fn come_to(conn: &mut Conn, ending: Ending) -> Result<(), Fail> {
+fn come_to(conn: &mut Conn, ending: DebtEnding) -> Result<(), Fail> {
     match ending {
-        Ending::NotWanted => hear(conn, b"438 <x@y>\r\n"),
-        Ending::WantedLater => hear(conn, b"431 <x@y>\r\n"),
-        Ending::Broken => {
+        DebtEnding::NotWanted => hear(conn, b"438 <x@y>\r\n"),
+        DebtEnding::WantedLater => hear(conn, b"431 <x@y>\r\n"),
+        DebtEnding::Broken => {
             conn.broken();
             Ok(())
         }
@@ -103,7 +106,41 @@ pub(crate) fn peer_with_backlog(
 ) -> Result<PostPeer<MemDisk>, Fail>
     ensures { IfOk result (λ p. IsFlushed p.station) }
 {
-    let mut made = peer(alloc, name, UNLIMITED)?;
+    backlog_on(
+        alloc,
+        name,
+        number,
+        (MemDisk::new(alloc), MemDisk::new(alloc)),
+    )
+}
+
+// The same, but once the debt is on the tape, the first disk fails the call after this many.
+pub(crate) fn flaky_peer_with_backlog(
+    alloc: Global,
+    name: &[u8],
+    number: u64,
+    calls: u64,
+) -> Result<PostPeer<FlakyDisk<MemDisk>>, Fail>
+    ensures { IfOk result (λ p. IsFlushed p.station) }
+{
+    let before = OPENING_CALLS.saturating_add(BACKLOG_FLUSH_CALLS);
+    let first = flaky(alloc, before.saturating_add(calls));
+    backlog_on(alloc, name, number, (first, flaky(alloc, u64::MAX)))
+}
+
+fn flaky(alloc: Global, calls: u64) -> FlakyDisk<MemDisk> {
+    FlakyDisk::new(MemDisk::new(alloc), calls)
+}
+
+fn backlog_on<D: Disk + Drop>(
+    alloc: Global,
+    name: &[u8],
+    number: u64,
+    disks: (D, D),
+) -> Result<PostPeer<D>, Fail>
+    ensures { IfOk result (λ p. IsFlushed p.station) }
+{
+    let mut made = peer_on(alloc, name, disks, UNLIMITED)?;
     let (token, id) = read_backlog_line(alloc, b"a/7 <w@v>")?;
     made.import(number, &token, &id)?;
     made.flush_or_rotate()?;
@@ -152,6 +189,11 @@ pub(crate) fn fused_intake(alloc: Global) -> Result<Tape<FuseDisk<MemDisk>>, Fai
     intake_on(alloc, (fused(alloc, u64::MAX), fused(alloc, u64::MAX)))
 }
 
+// An intake tape on disks of which no call fails.
+pub(crate) fn flaky_intake(alloc: Global) -> Result<Tape<FlakyDisk<MemDisk>>, Fail> {
+    intake_on(alloc, (flaky(alloc, u64::MAX), flaky(alloc, u64::MAX)))
+}
+
 fn intake_on<D: Disk + Drop>(alloc: Global, (a, b): (D, D)) -> Result<Tape<D>, Fail> {
     match Tape::open(alloc, a, b) {
         Ok(tape) => Ok(tape),
@@ -186,4 +228,17 @@ pub(crate) fn closed_sums<D: Disk + Drop, N: Naming, R: Wait>(
         Ok(closed) => Ok(closed.sums),
         Err(_) => Err(Fail::from("memory")),
     }
+}
+
+// Whether a call was refused for lack of memory.
+pub(crate) fn lacks_memory(fault: &PostFault) -> bool {
+    matches!(
+        fault,
+        PostFault::NoMemory
+            | PostFault::Intake(TapeFault::NoMemory)
+            | PostFault::Station {
+                fault: StationFault::NoMemory,
+                ..
+            }
+    )
 }

@@ -5,7 +5,7 @@ ghost use Rattle.flusher.specs.Post.{IsFor, names_of};
 ghost use Rattle.flusher.specs.Sealed.{IsFlushed};
 
 use crate::pace::{At, Meeting};
-use crate::shared::{Ending, counted_on_disks, fused_intake, fused_peer, outcome};
+use crate::shared::{DebtEnding, counted_on_disks, fused_intake, fused_peer, outcome};
 use conn_core::{CxnId, Outcome};
 use disk_model::{Disk, FuseDisk, MemDisk};
 use flusher::{
@@ -49,7 +49,7 @@ enum Job {
     TakeRoom,
 }
 
-// A worker that does one thing. It keeps a number, 0 for none, and what became of a debt.
+// A worker that does one thing. It keeps a number, 0 for none, what became of a debt, and why its call was refused.
 #[derive(Drop)]
 struct Hand<N: Naming> {
     who: Who,
@@ -62,6 +62,7 @@ struct Hand<N: Naming> {
     // How many debts it took room for.
     room: u64,
     settled: Option<Settled>,
+    fault: Option<PostFault>,
 }
 
 impl<N: Naming> Hand<N> {
@@ -70,34 +71,30 @@ impl<N: Naming> Hand<N> {
         rt: &R,
         post: &Post<D, N>,
         pace: &P,
-    ) -> Option<()> {
+    ) -> Result<(), PostFault> {
         if self.peer >= post.peers() {
-            return None;
+            return Ok(());
         }
         match self.job {
             Job::Nothing => {}
             Job::Finish => {
-                let outcome = self.outcome.take()?;
-                let Ok(settled) = post.finish(
-                    rt,
-                    self.peer,
-                    self.connection,
-                    outcome,
-                    0,
-                    &mut self.share,
-                ) else {
-                    return None;
+                let Some(outcome) = self.outcome.take() else {
+                    return Ok(());
                 };
-                self.settled = Some(settled);
+                match post.finish(rt, self.peer, self.connection, outcome, 0, &mut self.share) {
+                    Ok(settled) => self.settled = Some(settled),
+                    Err((_, fault)) => return Err(fault),
+                }
             }
             Job::Claim => {
-                let debt = post.claim(rt, self.peer, self.connection, 0).ok()??;
-                self.number = debt.key().number();
+                if let Some(debt) = post.claim(rt, self.peer, self.connection, 0)? {
+                    self.number = debt.key().number();
+                }
             }
-            Job::Flush => self.number = post.flush_all(rt, pace).ok()?.number(),
+            Job::Flush => self.number = post.flush_all(rt, pace)?.number(),
             Job::TakeRoom => self.room = room_taken(post),
         }
-        Some(())
+        Ok(())
     }
 }
 
@@ -110,7 +107,9 @@ impl<D: Disk, N: Naming> Work<D, N> for Hand<N> {
         pace: &P,
     ) {
         pace.turn(self.who, Place::BeforeSettle);
-        self.done(rt, post, pace);
+        if let Err(fault) = self.done(rt, post, pace) {
+            self.fault = Some(fault);
+        }
         pace.turn(self.who, Place::AfterSettle);
     }
 }
@@ -139,15 +138,16 @@ enum Turn {
     Order,
 }
 
-// The intake. It keeps the number of the line, or of the receipt.
+// The intake. It keeps the number of the line, or of the receipt, and why its line was refused.
 #[derive(Drop)]
-struct Taker<N: Naming> {
+struct IntakeHand<N: Naming> {
     turn: Turn,
     share: IntakeShare<N>,
     number: u64,
+    fault: Option<PostFault>,
 }
 
-impl<D: Disk, N: Naming> Work<D, N> for Taker<N> {
+impl<D: Disk, N: Naming> Work<D, N> for IntakeHand<N> {
     fn run<R: AllocGlobal + Wait + Clock + Log, P: Pace>(
         &mut self,
         rt: &R,
@@ -159,8 +159,9 @@ impl<D: Disk, N: Naming> Work<D, N> for Taker<N> {
         match self.turn {
             Turn::Nothing => {}
             Turn::Take => {
-                if let Ok(number) = post.take_line(rt, b"a/2 <z@y> p", &mut self.share) {
-                    self.number = number;
+                match post.take_line(rt, b"a/2 <z@y> p", &mut self.share) {
+                    Ok(number) => self.number = number,
+                    Err(fault) => self.fault = Some(fault),
                 }
             }
             Turn::Order => {
@@ -191,8 +192,13 @@ impl<N: Naming> Third<N> {
                 (share, 0, fault)
             }
             Third::Hand(hand) => {
-                let Hand { share, number, .. } = hand;
-                (share, number, None)
+                let Hand {
+                    share,
+                    number,
+                    fault,
+                    ..
+                } = hand;
+                (share, number, fault)
             }
         }
     }
@@ -215,7 +221,7 @@ impl<D: Disk, N: Naming> Work<D, N> for Third<N> {
 
 // What the workers of a row got, and what came of it.
 #[derive(Clone, Copy, Debug, PartialEq, Eq)]
-struct Told {
+struct MeetingResults {
     first: Option<Settled>,
     second: Option<Settled>,
     // What the two feeders got: the number of the debt that one claimed, or of the receipt.
@@ -236,7 +242,7 @@ struct Told {
 }
 
 // Two feeders, a third worker and the intake over the peers `p` and `q`, each of which is owed one debt, of line 1.
-struct Row {
+struct MeetingRow {
     name: &'static str,
     // How many calls pass the first disk of q.
     calls: u64,
@@ -248,7 +254,7 @@ struct Row {
     first: At,
     second: At,
     last: At,
-    told: Told,
+    results: MeetingResults,
 }
 
 // A hand that has claimed the debt that it is to finish.
@@ -267,7 +273,7 @@ fn hire<D: Disk, N: Naming, R: Wait>(
         && peer < post.peers()
     {
         let debt = post.claim(rt, peer, connection, 0)?.ok_or("a debt")?;
-        outcome_of = Some(outcome(alloc, connection, debt, Ending::NotWanted)?);
+        outcome_of = Some(outcome(alloc, connection, debt, DebtEnding::NotWanted)?);
     }
     Ok(Hand {
         who: Who::Feeder(number),
@@ -279,6 +285,7 @@ fn hire<D: Disk, N: Naming, R: Wait>(
         number: 0,
         room: 0,
         settled: None,
+        fault: None,
     })
 }
 
@@ -293,7 +300,7 @@ fn run_all<
     alone: bool,
     feeders: (Hand<N>, Hand<N>),
     third: Third<N>,
-    taker: &mut Taker<N>,
+    taker: &mut IntakeHand<N>,
     pace: &Meeting,
 ) -> Result<(Hand<N>, Hand<N>, Third<N>), NoThread> {
     let signals = Signals::new();
@@ -317,14 +324,22 @@ fn answered_on_disks(
     ))
 }
 
+// A fault that is not wanted, as for lack of memory, ends the test.
+fn check_fault(fault: Option<PostFault>, want: Option<PostFault>) -> Result<(), Fail> {
+    match fault {
+        Some(fault) if want != Some(fault) => Err(Fail::from(fault)),
+        _ => Ok(()),
+    }
+}
+
 fn meet<N: Naming + Send + Sync, R: AllocGlobal + Clock + Log + Threads + Wait + Sync>(
     rt: &R,
     alloc: Global,
-    row: &Row,
+    row: &MeetingRow,
     peers: Vec<PostPeer<FuseDisk<MemDisk>>>,
     intake: Tape<FuseDisk<MemDisk>>,
     blanks: Blanks,
-) -> Result<Told, Fail>
+) -> Result<MeetingResults, Fail>
     requires names { N.names ≡ names_of blanks peers.items }
     requires blanks { IsFor (length peers.items) blanks }
     requires flushed { All (λ p. IsFlushed p.station) peers.items }
@@ -344,10 +359,11 @@ fn meet<N: Naming + Send + Sync, R: AllocGlobal + Clock + Log + Threads + Wait +
     } else {
         Third::Flusher(Flusher::new(third))
     };
-    let mut taker = Taker {
+    let mut taker = IntakeHand {
         turn: row.turn,
         share,
         number: 0,
+        fault: None,
     };
     let pace = Meeting::new(row.first, row.second, row.last);
     let feeders = (first, second);
@@ -361,6 +377,7 @@ fn meet<N: Naming + Send + Sync, R: AllocGlobal + Clock + Log + Threads + Wait +
         settled: first,
         number: first_number,
         room: first_room,
+        fault: first_fault,
         ..
     } = first;
     let Hand {
@@ -368,39 +385,50 @@ fn meet<N: Naming + Send + Sync, R: AllocGlobal + Clock + Log + Threads + Wait +
         settled: second,
         number: second_number,
         room: second_room,
+        fault: second_fault,
         ..
     } = second;
     let (three, receipt, fault) = third.parts();
-    let Taker { share, number, .. } = taker;
-    match post.close(rt, share, one, two, three) {
-        Ok(
-            ClosedPost {
-                peers,
-                intake,
-                sums,
-            },
-        ) => Ok(Told {
-            first,
-            second,
-            numbers: (first_number, second_number),
-            room: first_room.saturating_add(second_room),
-            receipt,
-            intake: number,
-            gave_up,
-            mark: intake.mark(),
+    let IntakeHand {
+        share,
+        number,
+        fault: intake_fault,
+        ..
+    } = taker;
+    let Ok(
+        ClosedPost {
+            peers,
+            intake,
             sums,
-            fault,
-            on_disks: answered_on_disks(alloc, peers)?,
-        }),
-        Err(_) => Err(Fail::from("memory")),
-    }
+        },
+    ) = post.close(rt, share, one, two, three)
+    else {
+        return Err(Fail::from("memory"));
+    };
+    check_fault(first_fault, None)?;
+    check_fault(second_fault, None)?;
+    check_fault(intake_fault, None)?;
+    check_fault(fault, row.results.fault)?;
+    Ok(MeetingResults {
+        first,
+        second,
+        numbers: (first_number, second_number),
+        room: first_room.saturating_add(second_room),
+        receipt,
+        intake: number,
+        gave_up,
+        mark: intake.mark(),
+        sums,
+        fault,
+        on_disks: answered_on_disks(alloc, peers)?,
+    })
 }
 
 fn on_disks<R: AllocGlobal + Clock + Log + Threads + Wait + Sync>(
     rt: &R,
     alloc: Global,
-    row: &Row,
-) -> Result<Told, Fail> {
+    row: &MeetingRow,
+) -> Result<MeetingResults, Fail> {
     let first = fused_peer(alloc, b"p", UNLIMITED, u64::MAX)?;
     let second = fused_peer(alloc, b"q", UNLIMITED, row.calls)?;
     let peers = vec![in alloc; first, second]?;
@@ -408,8 +436,8 @@ fn on_disks<R: AllocGlobal + Clock + Log + Threads + Wait + Sync>(
     meet::<Brand, R>(rt, alloc, row, peers, fused_intake(alloc)?, blanks)
 }
 
-const ROWS: [Row; 9] = [
-    Row {
+const ROWS: [MeetingRow; 9] = [
+    MeetingRow {
         name: "both feeders settle at once",
         calls: u64::MAX,
         feeders: (Job::Finish, Job::Finish),
@@ -428,7 +456,7 @@ const ROWS: [Row; 9] = [
             who: Who::Feeder(1),
             place: Place::BeforeSettle,
         },
-        told: Told {
+        results: MeetingResults {
             first: Some(NOT_WANTED),
             second: Some(NOT_WANTED),
             numbers: (0, 0),
@@ -446,7 +474,7 @@ const ROWS: [Row; 9] = [
             on_disks: (1, 1),
         },
     },
-    Row {
+    MeetingRow {
         name: "in p's flush a claim at q is answered",
         calls: u64::MAX,
         feeders: (Job::Nothing, Job::Claim),
@@ -465,7 +493,7 @@ const ROWS: [Row; 9] = [
             who: Who::Feeder(1),
             place: Place::AfterSettle,
         },
-        told: Told {
+        results: MeetingResults {
             first: None,
             second: None,
             numbers: (0, 1),
@@ -483,7 +511,7 @@ const ROWS: [Row; 9] = [
             on_disks: (0, 0),
         },
     },
-    Row {
+    MeetingRow {
         name: "in p's flush what a debt came to at p is answered",
         calls: u64::MAX,
         feeders: (Job::Finish, Job::Nothing),
@@ -502,7 +530,7 @@ const ROWS: [Row; 9] = [
             who: Who::Feeder(0),
             place: Place::AfterSettle,
         },
-        told: Told {
+        results: MeetingResults {
             first: Some(NOT_WANTED),
             second: None,
             numbers: (0, 0),
@@ -520,7 +548,7 @@ const ROWS: [Row; 9] = [
             on_disks: (0, 0),
         },
     },
-    Row {
+    MeetingRow {
         name: "in p's flush a claim at p is answered",
         calls: u64::MAX,
         feeders: (Job::Claim, Job::Nothing),
@@ -539,7 +567,7 @@ const ROWS: [Row; 9] = [
             who: Who::Feeder(0),
             place: Place::AfterSettle,
         },
-        told: Told {
+        results: MeetingResults {
             first: None,
             second: None,
             numbers: (1, 0),
@@ -557,7 +585,7 @@ const ROWS: [Row; 9] = [
             on_disks: (0, 0),
         },
     },
-    Row {
+    MeetingRow {
         name: "a line is taken at the first end of a flush",
         calls: u64::MAX,
         feeders: (Job::Nothing, Job::Nothing),
@@ -576,7 +604,7 @@ const ROWS: [Row; 9] = [
             who: Who::Intake,
             place: Place::AfterSettle,
         },
-        told: Told {
+        results: MeetingResults {
             first: None,
             second: None,
             numbers: (0, 0),
@@ -594,7 +622,7 @@ const ROWS: [Row; 9] = [
             on_disks: (0, 0),
         },
     },
-    Row {
+    MeetingRow {
         name: "the tape of q fails, and p's answer reaches its disk",
         calls: 0,
         feeders: (Job::Finish, Job::Nothing),
@@ -613,7 +641,7 @@ const ROWS: [Row; 9] = [
             who: Who::Intake,
             place: Place::AfterSettle,
         },
-        told: Told {
+        results: MeetingResults {
             first: Some(NOT_WANTED),
             second: None,
             numbers: (0, 0),
@@ -634,7 +662,7 @@ const ROWS: [Row; 9] = [
             on_disks: (1, 0),
         },
     },
-    Row {
+    MeetingRow {
         name: "two feeders ask for room for one debt, and one takes it",
         calls: u64::MAX,
         feeders: (Job::TakeRoom, Job::TakeRoom),
@@ -653,7 +681,7 @@ const ROWS: [Row; 9] = [
             who: Who::Feeder(1),
             place: Place::BeforeSettle,
         },
-        told: Told {
+        results: MeetingResults {
             first: None,
             second: None,
             numbers: (0, 0),
@@ -671,7 +699,7 @@ const ROWS: [Row; 9] = [
             on_disks: (0, 0),
         },
     },
-    Row {
+    MeetingRow {
         name: "two feeders alone settle at once",
         calls: u64::MAX,
         feeders: (Job::Finish, Job::Finish),
@@ -690,7 +718,7 @@ const ROWS: [Row; 9] = [
             who: Who::Feeder(1),
             place: Place::BeforeSettle,
         },
-        told: Told {
+        results: MeetingResults {
             first: Some(NOT_WANTED),
             second: Some(NOT_WANTED),
             numbers: (0, 0),
@@ -708,7 +736,7 @@ const ROWS: [Row; 9] = [
             on_disks: (0, 0),
         },
     },
-    Row {
+    MeetingRow {
         name: "two feeders alone: in p's flush a claim at q is answered",
         calls: u64::MAX,
         feeders: (Job::Flush, Job::Claim),
@@ -727,7 +755,7 @@ const ROWS: [Row; 9] = [
             who: Who::Feeder(1),
             place: Place::AfterSettle,
         },
-        told: Told {
+        results: MeetingResults {
             first: None,
             second: None,
             numbers: (1, 1),
@@ -751,8 +779,8 @@ const ROWS: [Row; 9] = [
 fn workers_that_meet(rt: HostRuntime) -> Result<(), Fail> {
     let alloc = rt.alloc();
     for row in &ROWS {
-        let told = on_disks(&rt, alloc, row)?;
-        assert_eq!(rt; told, row.told, "{}", row.name);
+        let results = on_disks(&rt, alloc, row)?;
+        assert_eq!(rt; results, row.results, "{}", row.name);
     }
     Ok(())
 }

@@ -38,12 +38,12 @@ const OPENING_CALLS: u64 = 8;
 const OTHER_CALLS: u64 = 1;
 
 // How many calls pass the first disk, and how many the second.
-type Calls = (u64, u64);
+type PassedCalls = (u64, u64);
 
-const NO_FUSE: Calls = (u64::MAX, u64::MAX);
+const NO_FUSE: PassedCalls = (u64::MAX, u64::MAX);
 
 #[derive(Clone, Copy)]
-pub(crate) enum Step {
+pub(crate) enum StationStep {
     // The funnel's line of this number is owed.
     Owe(u64, Result<Owed, StationFault>),
     // The line of this number of the open source is owed.
@@ -111,18 +111,18 @@ pub(crate) enum Reopening {
 // A script of a station that owes the numbers from 1 to `owed`, all pending. The steps after each opening follow; at
 // the end these octets are on the disks, if any are given.
 #[derive(Clone, Copy)]
-pub(crate) struct Script {
+pub(crate) struct StationScript {
     pub(crate) name: &'static str,
     pub(crate) owed: u64,
     pub(crate) limits: Limits,
-    pub(crate) steps: &'static [Step],
-    pub(crate) opened: &'static [(Reopening, &'static [Step])],
+    pub(crate) steps: &'static [StationStep],
+    pub(crate) opened: &'static [(Reopening, &'static [StationStep])],
     pub(crate) tape: Option<(&'static [u8], &'static [u8])>,
 }
 
 // A station, and what connections hold of its debts: a debt that no peer answered is held as one that is given back.
 #[derive(Drop)]
-pub(crate) struct Caller {
+pub(crate) struct StationCaller {
     alloc: Global,
     station: Station<FuseDisk<MemDisk>>,
     held: Vec<Outcome>,
@@ -133,10 +133,10 @@ pub(crate) struct Caller {
 fn open(
     alloc: Global,
     (a, b): (MemDisk, MemDisk),
-    (first, second): Calls,
+    (first, second): PassedCalls,
     limits: Limits,
     place: RowPlace,
-) -> Result<Caller, Fail> {
+) -> Result<StationCaller, Fail> {
     match Station::open(
         alloc,
         FuseDisk::new(a, first),
@@ -148,8 +148,8 @@ fn open(
     }
 }
 
-fn calling(alloc: Global, station: Station<FuseDisk<MemDisk>>, place: RowPlace) -> Caller {
-    Caller {
+fn calling(alloc: Global, station: Station<FuseDisk<MemDisk>>, place: RowPlace) -> StationCaller {
+    StationCaller {
         alloc,
         station,
         held: Vec::new(alloc),
@@ -162,7 +162,7 @@ pub(crate) fn begin(
     name: &'static str,
     owed: u64,
     limits: Limits,
-) -> Result<Caller, Fail> {
+) -> Result<StationCaller, Fail> {
     let disks = (MemDisk::new(alloc), MemDisk::new(alloc));
     let mut caller = open(alloc, disks, NO_FUSE, limits, RowPlace::first(name))?;
     let (token, id) = names(alloc, b"<x@y>")?;
@@ -172,13 +172,13 @@ pub(crate) fn begin(
     Ok(caller)
 }
 
-fn disks_of(caller: Caller) -> (MemDisk, MemDisk) {
+fn disks_of(caller: StationCaller) -> (MemDisk, MemDisk) {
     let (a, b) = caller.station.into_disks();
     (a.into_inner(), b.into_inner())
 }
 
 // The caller with the same disks, opened again.
-fn opened_again(caller: Caller, opening: Reopening) -> Result<Caller, Fail> {
+fn opened_again(caller: StationCaller, opening: Reopening) -> Result<StationCaller, Fail> {
     let alloc = caller.alloc;
     let place = caller.place;
     match opening {
@@ -199,7 +199,11 @@ fn opened_again(caller: Caller, opening: Reopening) -> Result<Caller, Fail> {
 }
 
 // Takes these steps, each of which has to give the wanted answer.
-pub(crate) fn play<A: Abort>(rt: &A, caller: &mut Caller, steps: &[Step]) -> Result<(), Fail> {
+pub(crate) fn play<A: Abort>(
+    rt: &A,
+    caller: &mut StationCaller,
+    steps: &[StationStep],
+) -> Result<(), Fail> {
     for step in steps {
         take(rt, caller, *step)?;
         caller.place = caller.place.next();
@@ -207,7 +211,11 @@ pub(crate) fn play<A: Abort>(rt: &A, caller: &mut Caller, steps: &[Step]) -> Res
     Ok(())
 }
 
-pub(crate) fn play_script<A: Abort>(rt: &A, alloc: Global, script: Script) -> Result<(), Fail> {
+pub(crate) fn play_script<A: Abort>(
+    rt: &A,
+    alloc: Global,
+    script: StationScript,
+) -> Result<(), Fail> {
     let mut caller = begin(alloc, script.name, script.owed, script.limits)?;
     play(rt, &mut caller, script.steps)?;
     for (opening, steps) in script.opened {
@@ -223,7 +231,7 @@ pub(crate) fn play_script<A: Abort>(rt: &A, alloc: Global, script: Script) -> Re
 pub(crate) fn play_scripts<A: Abort>(
     rt: &A,
     alloc: Global,
-    scripts: &[Script],
+    scripts: &[StationScript],
 ) -> Result<(), Fail> {
     for script in scripts {
         play_script(rt, alloc, *script)?;
@@ -231,7 +239,7 @@ pub(crate) fn play_scripts<A: Abort>(
     Ok(())
 }
 
-fn assert_tape<A: Abort>(rt: &A, caller: Caller, want: (&[u8], &[u8])) -> Result<(), Fail> {
+fn assert_tape<A: Abort>(rt: &A, caller: StationCaller, want: (&[u8], &[u8])) -> Result<(), Fail> {
     let (alloc, place) = (caller.alloc, caller.place);
     assert_octets(rt, alloc, place, disks_of(caller), want)
 }
@@ -257,68 +265,76 @@ fn octets_of(alloc: Global, disk: &mut MemDisk) -> Result<Vec<u8>, Fail> {
     Ok(octets)
 }
 
-fn take<A: Abort>(rt: &A, caller: &mut Caller, step: Step) -> Result<(), Fail> {
+fn take<A: Abort>(rt: &A, caller: &mut StationCaller, step: StationStep) -> Result<(), Fail> {
     match step {
-        Step::Owe(number, want) => assert_owed(rt, caller, number, want),
-        Step::Import(number, want) => assert_imported(rt, caller, number, want),
-        Step::Claim(connection, now, want) => assert_claimed(rt, caller, connection, now, want),
-        Step::NotWanted(number) => answer(rt, caller, number, b"438 <x@y>\r\n", 438),
-        Step::WantedLater(number) => answer(rt, caller, number, b"431 <x@y>\r\n", LATER),
-        Step::Taken(number) => answer(rt, caller, number, b"238 <x@y>\r\n", 239),
-        Step::Settle(connection, number, want) => settle(rt, caller, connection, number, want),
-        Step::Defer(connection, number, now, want) => {
+        StationStep::Owe(number, want) => assert_owed(rt, caller, number, want),
+        StationStep::Import(number, want) => assert_imported(rt, caller, number, want),
+        StationStep::Claim(connection, now, want) => assert_claimed(
+            rt, caller, connection, now, want,
+        ),
+        StationStep::NotWanted(number) => answer(rt, caller, number, b"438 <x@y>\r\n", 438),
+        StationStep::WantedLater(number) => answer(rt, caller, number, b"431 <x@y>\r\n", LATER),
+        StationStep::Taken(number) => answer(rt, caller, number, b"238 <x@y>\r\n", 239),
+        StationStep::Settle(connection, number, want) => settle(
+            rt, caller, connection, number, want,
+        ),
+        StationStep::Defer(connection, number, now, want) => {
             defer(rt, caller, connection, number, now, want)
         }
-        Step::Lose(connection, number, want) => lose(rt, caller, connection, number, want),
-        Step::Back(connection, number, want) => back(rt, caller, connection, number, want),
-        Step::PutOff(connection, number, until, want) => {
+        StationStep::Lose(connection, number, want) => lose(rt, caller, connection, number, want),
+        StationStep::Back(connection, number, want) => back(rt, caller, connection, number, want),
+        StationStep::PutOff(connection, number, until, want) => {
             put_off(rt, caller, connection, number, until, want)
         }
-        Step::Gone(number) => lack(caller, number),
-        Step::Finish(connection, number, now, want) => {
+        StationStep::Gone(number) => lack(caller, number),
+        StationStep::Finish(connection, number, now, want) => {
             finish(rt, caller, connection, number, now, want)
         }
-        Step::Shed(want, more) => assert_shed(rt, caller, want, more),
-        Step::ShedRefused(want) => assert_shed_refused(rt, caller, want),
-        Step::Debt(number, want) => assert_debt(rt, caller, number, want),
-        Step::List(want) => assert_listed(rt, caller, want),
-        Step::ListBetween(least, most) => assert_between(rt, caller, least, most),
+        StationStep::Shed(want, more) => assert_shed(rt, caller, want, more),
+        StationStep::ShedRefused(want) => assert_shed_refused(rt, caller, want),
+        StationStep::Debt(number, want) => assert_debt(rt, caller, number, want),
+        StationStep::List(want) => assert_listed(rt, caller, want),
+        StationStep::ListBetween(least, most) => assert_between(rt, caller, least, most),
         _ => assert_told(rt, caller, step),
     }
 }
 
 // A step that asks for a number or a count.
-fn assert_told<A: Abort>(rt: &A, caller: &mut Caller, step: Step) -> Result<(), Fail> {
+fn assert_told<A: Abort>(
+    rt: &A,
+    caller: &mut StationCaller,
+    step: StationStep,
+) -> Result<(), Fail> {
     match step {
-        Step::Flush(want) => {
+        StationStep::Flush(want) => {
             let flushed = flush(&mut caller.station);
             assert_answer(rt, caller, flushed, want)?;
         }
-        Step::Rotate(want) => {
+        StationStep::Rotate(want) => {
             let rotated = caller.station.rotate();
             assert_answer(rt, caller, rotated, want)?;
         }
-        Step::Close(want) => {
+        StationStep::Close(want) => {
             let closed = close(&mut caller.station);
             assert_answer(rt, caller, closed, want)?;
         }
-        Step::Imported(closed, mark) => {
+        StationStep::Imported(closed, mark) => {
             let told = (
                 u64::from(caller.station.closed()),
                 caller.station.import_mark(),
             );
             assert_same(rt, caller.place, &told, &(closed, mark));
         }
-        Step::Room(want) => assert_same(rt, caller.place, &caller.station.room(), &want),
-        Step::RotateDue(want) => {
+        StationStep::Room(want) => assert_same(rt, caller.place, &caller.station.room(), &want),
+        StationStep::RotateDue(want) => {
             assert_same(rt, caller.place, &caller.station.rotate_due(), &want);
         }
-        Step::Release(connection, want) => {
+        StationStep::Release(connection, want) => {
             let released = caller.station.release(connection);
             assert_answer(rt, caller, Ok(released), Ok(want))?;
         }
-        Step::Mark(want) => assert_answer(rt, caller, Ok(caller.station.mark()), Ok(want))?,
-        Step::Totals(taken, answered, dropped, owed) => {
+        StationStep::Mark(want) => assert_answer(rt, caller, Ok(caller.station.mark()), Ok(want))?,
+        StationStep::Totals(taken, answered, dropped, owed) => {
             let want = Totals {
                 taken,
                 answered,
@@ -361,7 +377,7 @@ fn close(station: &mut Station<FuseDisk<MemDisk>>) -> Result<u64, StationFault> 
 
 fn assert_owed<A: Abort>(
     rt: &A,
-    caller: &mut Caller,
+    caller: &mut StationCaller,
     number: u64,
     want: Result<Owed, StationFault>,
 ) -> Result<(), Fail> {
@@ -372,7 +388,7 @@ fn assert_owed<A: Abort>(
 
 fn assert_imported<A: Abort>(
     rt: &A,
-    caller: &mut Caller,
+    caller: &mut StationCaller,
     number: u64,
     want: Result<Owed, StationFault>,
 ) -> Result<(), Fail> {
@@ -384,7 +400,7 @@ fn assert_imported<A: Abort>(
 // The wanted answer to a line that is owed, unless memory was refused.
 fn assert_new<A: Abort>(
     rt: &A,
-    caller: &Caller,
+    caller: &StationCaller,
     owed: Result<Owed, StationFault>,
     want: Result<Owed, StationFault>,
 ) -> Result<(), Fail> {
@@ -398,7 +414,7 @@ fn assert_new<A: Abort>(
 // The wanted answer to a call that takes memory, unless memory was refused.
 fn assert_answer<A: Abort>(
     rt: &A,
-    caller: &Caller,
+    caller: &StationCaller,
     answer: Result<u64, StationFault>,
     want: Result<u64, StationFault>,
 ) -> Result<(), Fail> {
@@ -409,7 +425,7 @@ fn assert_answer<A: Abort>(
     Ok(())
 }
 
-fn hold(caller: &mut Caller, held: Outcome) -> Result<(), Fail> {
+fn hold(caller: &mut StationCaller, held: Outcome) -> Result<(), Fail> {
     Ok(caller.held.push(held)?)
 }
 
@@ -430,7 +446,7 @@ fn told_number<A: Abort>(rt: &A, place: RowPlace, debt: &Option<Debt>) -> u64 {
 }
 
 // Holds what was claimed, and returns the number of its key, as rows write it.
-fn keep<A: Abort>(rt: &A, caller: &mut Caller, debt: Option<Debt>) -> Result<u64, Fail> {
+fn keep<A: Abort>(rt: &A, caller: &mut StationCaller, debt: Option<Debt>) -> Result<u64, Fail> {
     let number = told_number(rt, caller.place, &debt);
     if let Some(debt) = debt {
         hold(caller, Outcome::Back(debt))?;
@@ -440,7 +456,7 @@ fn keep<A: Abort>(rt: &A, caller: &mut Caller, debt: Option<Debt>) -> Result<u64
 
 fn assert_claimed<A: Abort>(
     rt: &A,
-    caller: &mut Caller,
+    caller: &mut StationCaller,
     connection: CxnId,
     now: u64,
     want: Result<u64, StationFault>,
@@ -452,7 +468,7 @@ fn assert_claimed<A: Abort>(
     assert_answer(rt, caller, claimed, want)
 }
 
-fn given(caller: &mut Caller, number: u64) -> Result<Outcome, Fail> {
+fn given(caller: &mut StationCaller, number: u64) -> Result<Outcome, Fail> {
     let at = caller
         .held
         .iter()
@@ -461,7 +477,7 @@ fn given(caller: &mut Caller, number: u64) -> Result<Outcome, Fail> {
     Ok(caller.held.remove(at))
 }
 
-fn debt_given(caller: &mut Caller, number: u64) -> Result<Debt, Fail> {
+fn debt_given(caller: &mut StationCaller, number: u64) -> Result<Debt, Fail> {
     match given(caller, number)? {
         Outcome::Back(debt) => Ok(debt),
         _ => Err(Fail::from("not a debt")),
@@ -508,7 +524,7 @@ fn answered<A: Abort>(
 // The peer answers the debt of this number with this line, and this becomes of it.
 fn answer<A: Abort>(
     rt: &A,
-    caller: &mut Caller,
+    caller: &mut StationCaller,
     number: u64,
     line: &[u8],
     code: u16,
@@ -522,7 +538,7 @@ fn answer<A: Abort>(
 // The debt of this number was settled; or that was refused, and the outcome was handed back.
 fn assert_ended<A: Abort>(
     rt: &A,
-    caller: &mut Caller,
+    caller: &mut StationCaller,
     number: u64,
     refused: Option<(Outcome, StationFault)>,
     want: Result<(), StationFault>,
@@ -543,7 +559,7 @@ fn assert_ended<A: Abort>(
 // Holds what was handed back, which has to be of this number.
 fn hold_again<A: Abort>(
     rt: &A,
-    caller: &mut Caller,
+    caller: &mut StationCaller,
     number: u64,
     held: Outcome,
 ) -> Result<(), Fail> {
@@ -553,7 +569,7 @@ fn hold_again<A: Abort>(
 
 fn settle<A: Abort>(
     rt: &A,
-    caller: &mut Caller,
+    caller: &mut StationCaller,
     connection: CxnId,
     number: u64,
     want: Result<(), StationFault>,
@@ -570,7 +586,7 @@ fn settle<A: Abort>(
 
 fn defer<A: Abort>(
     rt: &A,
-    caller: &mut Caller,
+    caller: &mut StationCaller,
     connection: CxnId,
     number: u64,
     now: u64,
@@ -588,7 +604,7 @@ fn defer<A: Abort>(
 
 fn lose<A: Abort>(
     rt: &A,
-    caller: &mut Caller,
+    caller: &mut StationCaller,
     connection: CxnId,
     number: u64,
     want: Result<(), StationFault>,
@@ -603,7 +619,7 @@ fn lose<A: Abort>(
 
 fn back<A: Abort>(
     rt: &A,
-    caller: &mut Caller,
+    caller: &mut StationCaller,
     connection: CxnId,
     number: u64,
     want: Result<(), StationFault>,
@@ -618,7 +634,7 @@ fn back<A: Abort>(
 
 fn put_off<A: Abort>(
     rt: &A,
-    caller: &mut Caller,
+    caller: &mut StationCaller,
     connection: CxnId,
     number: u64,
     until: u64,
@@ -632,14 +648,14 @@ fn put_off<A: Abort>(
     assert_ended(rt, caller, number, refused, want)
 }
 
-fn lack(caller: &mut Caller, number: u64) -> Result<(), Fail> {
+fn lack(caller: &mut StationCaller, number: u64) -> Result<(), Fail> {
     let debt = debt_given(caller, number)?;
     hold(caller, Outcome::Lost(debt, Cause::Missing))
 }
 
 fn finish<A: Abort>(
     rt: &A,
-    caller: &mut Caller,
+    caller: &mut StationCaller,
     connection: CxnId,
     number: u64,
     now: u64,
@@ -660,7 +676,12 @@ fn finish<A: Abort>(
     Ok(())
 }
 
-fn assert_keys<A: Abort>(rt: &A, caller: &Caller, keys: &[Key], want: &[u64]) -> Result<(), Fail> {
+fn assert_keys<A: Abort>(
+    rt: &A,
+    caller: &StationCaller,
+    keys: &[Key],
+    want: &[u64],
+) -> Result<(), Fail> {
     let told = all_in_rows(caller.alloc, keys)?;
     assert_same(rt, caller.place, &told.as_slice(), &want);
     Ok(())
@@ -668,7 +689,7 @@ fn assert_keys<A: Abort>(rt: &A, caller: &Caller, keys: &[Key], want: &[u64]) ->
 
 fn assert_shed<A: Abort>(
     rt: &A,
-    caller: &mut Caller,
+    caller: &mut StationCaller,
     want: &[u64],
     want_more: bool,
 ) -> Result<(), Fail> {
@@ -680,7 +701,7 @@ fn assert_shed<A: Abort>(
 
 fn assert_shed_refused<A: Abort>(
     rt: &A,
-    caller: &mut Caller,
+    caller: &mut StationCaller,
     want: StationFault,
 ) -> Result<(), Fail> {
     let shed = match caller.station.shed() {
@@ -692,7 +713,7 @@ fn assert_shed_refused<A: Abort>(
 
 fn assert_debt<A: Abort>(
     rt: &A,
-    caller: &mut Caller,
+    caller: &mut StationCaller,
     number: u64,
     want: Result<u64, StationFault>,
 ) -> Result<(), Fail> {
@@ -703,18 +724,18 @@ fn assert_debt<A: Abort>(
     assert_answer(rt, caller, told, want)
 }
 
-fn listed(caller: &Caller) -> Result<Vec<Key>, Fail> {
+fn listed(caller: &StationCaller) -> Result<Vec<Key>, Fail> {
     Ok(caller.station.list()?)
 }
 
-fn assert_listed<A: Abort>(rt: &A, caller: &Caller, want: &[u64]) -> Result<(), Fail> {
+fn assert_listed<A: Abort>(rt: &A, caller: &StationCaller, want: &[u64]) -> Result<(), Fail> {
     let keys = listed(caller)?;
     assert_keys(rt, caller, &keys, want)
 }
 
 fn assert_between<A: Abort>(
     rt: &A,
-    caller: &Caller,
+    caller: &StationCaller,
     least: &[u64],
     most: &[u64],
 ) -> Result<(), Fail> {

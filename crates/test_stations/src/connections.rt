@@ -1,6 +1,7 @@
 // Exchanges of one connection.
 use crate::exchange::{
-    CHECKED, Exchange, PLAIN, Row, STREAMING, Step, WIRES, Wire, begin, end, play, play_rows,
+    CHECKED, ConnExchange, ConnRow, ConnStep, PLAIN, STREAMING, WIRES, Wire, begin, end, play,
+    play_rows,
 };
 use crate::shared::{BACK, LATER, MISSING, UNSENDABLE};
 use conn_core::{Mode, OfferFault, Ready, Reason};
@@ -9,218 +10,218 @@ use std::alloc::Global;
 use std::process::Abort;
 use std::test::Fail;
 
-const ANSWERED: &[Row] = &[
-    Row {
+const ANSWERED: &[ConnRow] = &[
+    ConnRow {
         name: "an article is taken",
         streaming: true,
         start: &[],
         steps: &[
-            Step::Line(b"200 ready"),
-            Step::Output(b"MODE STREAM\r\n"),
-            Step::Mode(None),
-            Step::Line(b"203 ok"),
-            Step::Mode(Some(Mode::Streaming)),
-            Step::Offer(1, b"<x@y>"),
-            Step::Output(b"CHECK <x@y>\r\n"),
-            Step::Line(b"238 <x@y>"),
-            Step::Text(1, b"Subject: t\n\n.b\n"),
-            Step::Output(b"TAKETHIS <x@y>\r\nSubject: t\r\n\r\n..b\r\n.\r\n"),
-            Step::Line(b"239 <x@y>"),
-            Step::Outcome(1, 239),
+            ConnStep::Line(b"200 ready"),
+            ConnStep::Output(b"MODE STREAM\r\n"),
+            ConnStep::Mode(None),
+            ConnStep::Line(b"203 ok"),
+            ConnStep::Mode(Some(Mode::Streaming)),
+            ConnStep::Offer(1, b"<x@y>"),
+            ConnStep::Output(b"CHECK <x@y>\r\n"),
+            ConnStep::Line(b"238 <x@y>"),
+            ConnStep::Text(1, b"Subject: t\n\n.b\n"),
+            ConnStep::Output(b"TAKETHIS <x@y>\r\nSubject: t\r\n\r\n..b\r\n.\r\n"),
+            ConnStep::Line(b"239 <x@y>"),
+            ConnStep::Outcome(1, 239),
         ],
         closed: None,
     },
-    Row {
+    ConnRow {
         name: "an article is gone",
         streaming: true,
         start: CHECKED,
         steps: &[
-            Step::Line(b"238 <x@y>"),
-            Step::Gone(1),
-            Step::Outcome(1, MISSING),
+            ConnStep::Line(b"238 <x@y>"),
+            ConnStep::Gone(1),
+            ConnStep::Outcome(1, MISSING),
         ],
         closed: None,
     },
-    Row {
+    ConnRow {
         name: "a text can not be sent",
         streaming: true,
         start: CHECKED,
         steps: &[
-            Step::Line(b"238 <x@y>"),
-            Step::Text(1, b"a\0b\n"),
-            Step::Outcome(1, UNSENDABLE),
+            ConnStep::Line(b"238 <x@y>"),
+            ConnStep::Text(1, b"a\0b\n"),
+            ConnStep::Outcome(1, UNSENDABLE),
         ],
         closed: None,
     },
-    Row {
+    ConnRow {
         name: "one by one",
         streaming: true,
         start: &[],
         steps: &[
-            Step::Line(b"200"),
-            Step::Output(b"MODE STREAM\r\n"),
-            Step::Line(b"501 what"),
-            Step::Mode(Some(Mode::Ihave)),
-            Step::Offer(1, b"<x@y>"),
-            Step::Text(1, b"one\n"),
-            Step::Output(b"IHAVE <x@y>\r\n"),
-            Step::Line(b"335"),
-            Step::Output(b"one\r\n.\r\n"),
-            Step::Line(b"436"),
-            Step::Offer(2, b"<z@y>"),
-            Step::Text(2, b"two\n"),
-            Step::Output(b"IHAVE <z@y>\r\n"),
-            Step::Line(b"335"),
-            Step::Output(b"two\r\n.\r\n"),
-            Step::Line(b"437"),
-            Step::Outcome(1, LATER),
-            Step::Outcome(2, 437),
+            ConnStep::Line(b"200"),
+            ConnStep::Output(b"MODE STREAM\r\n"),
+            ConnStep::Line(b"501 what"),
+            ConnStep::Mode(Some(Mode::Ihave)),
+            ConnStep::Offer(1, b"<x@y>"),
+            ConnStep::Text(1, b"one\n"),
+            ConnStep::Output(b"IHAVE <x@y>\r\n"),
+            ConnStep::Line(b"335"),
+            ConnStep::Output(b"one\r\n.\r\n"),
+            ConnStep::Line(b"436"),
+            ConnStep::Offer(2, b"<z@y>"),
+            ConnStep::Text(2, b"two\n"),
+            ConnStep::Output(b"IHAVE <z@y>\r\n"),
+            ConnStep::Line(b"335"),
+            ConnStep::Output(b"two\r\n.\r\n"),
+            ConnStep::Line(b"437"),
+            ConnStep::Outcome(1, LATER),
+            ConnStep::Outcome(2, 437),
         ],
         closed: None,
     },
-    Row {
+    ConnRow {
         name: "one id twice",
         streaming: true,
         start: CHECKED,
         steps: &[
-            Step::Offer(2, b"<x@y>"),
-            Step::Offer(3, b"<z@y>"),
-            Step::Output(b"CHECK <x@y>\r\nCHECK <z@y>\r\n"),
-            Step::Line(b"438 <z@y>"),
-            Step::Line(b"438 <x@y>"),
-            Step::Outcome(3, 438),
-            Step::Outcome(1, 438),
+            ConnStep::Offer(2, b"<x@y>"),
+            ConnStep::Offer(3, b"<z@y>"),
+            ConnStep::Output(b"CHECK <x@y>\r\nCHECK <z@y>\r\n"),
+            ConnStep::Line(b"438 <z@y>"),
+            ConnStep::Line(b"438 <x@y>"),
+            ConnStep::Outcome(3, 438),
+            ConnStep::Outcome(1, 438),
         ],
         closed: None,
     },
-    Row {
+    ConnRow {
         name: "a debt is put off",
         streaming: true,
         start: STREAMING,
         steps: &[
-            Step::Tick(100),
-            Step::Offer(1, b"<x@y>"),
-            Step::Output(b"CHECK <x@y>\r\n"),
-            Step::Line(b"431 <x@y>"),
-            Step::Tick(160),
-            Step::Offer(1, b"<x@y>"),
-            Step::Output(b"CHECK <x@y>\r\n"),
-            Step::Outcome(1, LATER),
+            ConnStep::Tick(100),
+            ConnStep::Offer(1, b"<x@y>"),
+            ConnStep::Output(b"CHECK <x@y>\r\n"),
+            ConnStep::Line(b"431 <x@y>"),
+            ConnStep::Tick(160),
+            ConnStep::Offer(1, b"<x@y>"),
+            ConnStep::Output(b"CHECK <x@y>\r\n"),
+            ConnStep::Outcome(1, LATER),
         ],
         closed: None,
     },
 ];
 
-const CLOSED: &[Row] = &[
-    Row {
+const CLOSED: &[ConnRow] = &[
+    ConnRow {
         name: "a break gives all back",
         streaming: true,
         start: CHECKED,
         steps: &[
-            Step::Offer(2, b"<z@y>"),
-            Step::Offer(3, b"<w@y>"),
-            Step::Output(b"CHECK <z@y>\r\nCHECK <w@y>\r\n"),
-            Step::Line(b"238 <x@y>"),
-            Step::Text(1, b"t\n"),
-            Step::Output(b"TAKETHIS <x@y>\r\nt\r\n.\r\n"),
-            Step::Broken,
-            Step::Outcome(1, BACK),
-            Step::Outcome(2, BACK),
-            Step::Outcome(3, BACK),
+            ConnStep::Offer(2, b"<z@y>"),
+            ConnStep::Offer(3, b"<w@y>"),
+            ConnStep::Output(b"CHECK <z@y>\r\nCHECK <w@y>\r\n"),
+            ConnStep::Line(b"238 <x@y>"),
+            ConnStep::Text(1, b"t\n"),
+            ConnStep::Output(b"TAKETHIS <x@y>\r\nt\r\n.\r\n"),
+            ConnStep::Broken,
+            ConnStep::Outcome(1, BACK),
+            ConnStep::Outcome(2, BACK),
+            ConnStep::Outcome(3, BACK),
         ],
         closed: Some(Reason::Broken),
     },
-    Row {
+    ConnRow {
         name: "a greeting refuses",
         streaming: true,
         start: &[],
-        steps: &[Step::Line(b"400 no")],
+        steps: &[ConnStep::Line(b"400 no")],
         closed: Some(Reason::Greeting(400)),
     },
-    Row {
+    ConnRow {
         name: "an answer is late",
         streaming: false,
         start: &[],
         steps: &[
-            Step::Line(b"201"),
-            Step::Tick(7),
-            Step::Offer(1, b"<x@y>"),
-            Step::Text(1, b"one\n"),
-            Step::Output(b"IHAVE <x@y>\r\n"),
-            Step::Tick(20),
-            Step::Output(b""),
-            Step::Tick(319),
-            Step::Output(b""),
-            Step::Ready(Ready::Busy),
-            Step::Tick(320),
-            Step::Outcome(1, BACK),
+            ConnStep::Line(b"201"),
+            ConnStep::Tick(7),
+            ConnStep::Offer(1, b"<x@y>"),
+            ConnStep::Text(1, b"one\n"),
+            ConnStep::Output(b"IHAVE <x@y>\r\n"),
+            ConnStep::Tick(20),
+            ConnStep::Output(b""),
+            ConnStep::Tick(319),
+            ConnStep::Output(b""),
+            ConnStep::Ready(Ready::Busy),
+            ConnStep::Tick(320),
+            ConnStep::Outcome(1, BACK),
         ],
         closed: Some(Reason::Timeout),
     },
-    Row {
+    ConnRow {
         name: "quits once nothing is held",
         streaming: true,
         start: CHECKED,
         steps: &[
-            Step::Quit,
-            Step::Output(b""),
-            Step::Line(b"438 <x@y>"),
-            Step::Output(b"QUIT\r\n"),
-            Step::Line(b"205 bye"),
-            Step::Outcome(1, 438),
+            ConnStep::Quit,
+            ConnStep::Output(b""),
+            ConnStep::Line(b"438 <x@y>"),
+            ConnStep::Output(b"QUIT\r\n"),
+            ConnStep::Line(b"205 bye"),
+            ConnStep::Outcome(1, 438),
         ],
         closed: Some(Reason::Quit),
     },
-    Row {
+    ConnRow {
         name: "some octets were sent",
         streaming: true,
         start: &[],
         steps: &[
-            Step::Line(b"200"),
-            Step::Line(b"203"),
-            Step::Offer(1, b"<x@y>"),
-            Step::Offer(2, b"<z@y>"),
-            Step::Sent(20),
-            Step::Unsent(b"x@y>\r\nCHECK <z@y>\r\n"),
-            Step::Broken,
-            Step::Outcome(1, BACK),
-            Step::Outcome(2, BACK),
+            ConnStep::Line(b"200"),
+            ConnStep::Line(b"203"),
+            ConnStep::Offer(1, b"<x@y>"),
+            ConnStep::Offer(2, b"<z@y>"),
+            ConnStep::Sent(20),
+            ConnStep::Unsent(b"x@y>\r\nCHECK <z@y>\r\n"),
+            ConnStep::Broken,
+            ConnStep::Outcome(1, BACK),
+            ConnStep::Outcome(2, BACK),
         ],
         closed: Some(Reason::Broken),
     },
-    Row {
+    ConnRow {
         name: "ended in a block",
         streaming: false,
         start: PLAIN,
         steps: &[
-            Step::Offer(1, b"<x@y>"),
-            Step::Text(1, b"one\n"),
-            Step::Line(b"335"),
-            Step::Unsent(b"IHAVE <x@y>\r\none\r\n.\r\n"),
-            Step::Sent(5),
-            Step::Line(b"400 bye"),
-            Step::Outcome(1, BACK),
+            ConnStep::Offer(1, b"<x@y>"),
+            ConnStep::Text(1, b"one\n"),
+            ConnStep::Line(b"335"),
+            ConnStep::Unsent(b"IHAVE <x@y>\r\none\r\n.\r\n"),
+            ConnStep::Sent(5),
+            ConnStep::Line(b"400 bye"),
+            ConnStep::Outcome(1, BACK),
         ],
         closed: Some(Reason::Ended(400)),
     },
-    Row {
+    ConnRow {
         name: "refusals",
         streaming: false,
         start: &[],
         steps: &[
-            Step::Ready(Ready::Busy),
-            Step::NotOffered(1, OfferFault::Busy),
-            Step::Need(None),
-            Step::NotNeeded(1),
-            Step::Line(b"200"),
-            Step::Offer(1, b"<x@y>"),
-            Step::Ready(Ready::Busy),
-            Step::Quit,
-            Step::Ready(Ready::Shut),
-            Step::NotOffered(2, OfferFault::Closed),
-            Step::Broken,
-            Step::Line(b"200"),
-            Step::Outcome(1, BACK),
+            ConnStep::Ready(Ready::Busy),
+            ConnStep::NotOffered(1, OfferFault::Busy),
+            ConnStep::Need(None),
+            ConnStep::NotNeeded(1),
+            ConnStep::Line(b"200"),
+            ConnStep::Offer(1, b"<x@y>"),
+            ConnStep::Ready(Ready::Busy),
+            ConnStep::Quit,
+            ConnStep::Ready(Ready::Shut),
+            ConnStep::NotOffered(2, OfferFault::Closed),
+            ConnStep::Broken,
+            ConnStep::Line(b"200"),
+            ConnStep::Outcome(1, BACK),
         ],
         closed: Some(Reason::Broken),
     },
@@ -229,66 +230,75 @@ const CLOSED: &[Row] = &[
 // With its line end it is longer than a reply may be.
 const LONG: [u8; 2048] = [b'2'; 2048];
 
-const MALICIOUS: &[Row] = &[
-    Row {
+const MALICIOUS: &[ConnRow] = &[
+    ConnRow {
         name: "an end",
         streaming: true,
         start: CHECKED,
-        steps: &[Step::Line(b"400 bye"), Step::Outcome(1, BACK)],
+        steps: &[ConnStep::Line(b"400 bye"), ConnStep::Outcome(1, BACK)],
         closed: Some(Reason::Ended(400)),
     },
-    Row {
+    ConnRow {
         name: "an end, and an answer behind it",
         streaming: true,
         start: CHECKED,
-        steps: &[Step::Line(b"400 a\r\n438 <x@y>"), Step::Outcome(1, BACK)],
+        steps: &[
+            ConnStep::Line(b"400 a\r\n438 <x@y>"),
+            ConnStep::Outcome(1, BACK),
+        ],
         closed: Some(Reason::Ended(400)),
     },
-    Row {
+    ConnRow {
         name: "an answer, and an end behind it",
         streaming: true,
         start: CHECKED,
-        steps: &[Step::Line(b"438 <x@y>\r\n400 a"), Step::Outcome(1, 438)],
+        steps: &[
+            ConnStep::Line(b"438 <x@y>\r\n400 a"),
+            ConnStep::Outcome(1, 438),
+        ],
         closed: Some(Reason::Ended(400)),
     },
-    Row {
+    ConnRow {
         name: "an answer twice",
         streaming: true,
         start: CHECKED,
-        steps: &[Step::Line(b"438 <x@y>\r\n438 <x@y>"), Step::Outcome(1, 438)],
+        steps: &[
+            ConnStep::Line(b"438 <x@y>\r\n438 <x@y>"),
+            ConnStep::Outcome(1, 438),
+        ],
         closed: Some(Reason::Unmatched),
     },
-    Row {
+    ConnRow {
         name: "an answer for no debt",
         streaming: true,
         start: CHECKED,
-        steps: &[Step::Line(b"438 <w@z>"), Step::Outcome(1, BACK)],
+        steps: &[ConnStep::Line(b"438 <w@z>"), ConnStep::Outcome(1, BACK)],
         closed: Some(Reason::Unmatched),
     },
-    Row {
+    ConnRow {
         name: "an answer to a TAKETHIS",
         streaming: true,
         start: CHECKED,
-        steps: &[Step::Line(b"239 <x@y>"), Step::Outcome(1, BACK)],
+        steps: &[ConnStep::Line(b"239 <x@y>"), ConnStep::Outcome(1, BACK)],
         closed: Some(Reason::Unmatched),
     },
-    Row {
+    ConnRow {
         name: "no code",
         streaming: true,
         start: CHECKED,
-        steps: &[Step::Line(b"what"), Step::Outcome(1, BACK)],
+        steps: &[ConnStep::Line(b"what"), ConnStep::Outcome(1, BACK)],
         closed: Some(Reason::Reader(ReplyFault::NoCode)),
     },
-    Row {
+    ConnRow {
         name: "too long",
         streaming: true,
         start: CHECKED,
-        steps: &[Step::Line(&LONG), Step::Outcome(1, BACK)],
+        steps: &[ConnStep::Line(&LONG), ConnStep::Outcome(1, BACK)],
         closed: Some(Reason::Reader(ReplyFault::TooLong)),
     },
 ];
 
-const SWITCHED: Row = Row {
+const SWITCHED: ConnRow = ConnRow {
     name: "the check switch",
     streaming: true,
     start: STREAMING,
@@ -355,29 +365,36 @@ const ANSWERS: [Answers; 5] = [
 // One article, from its offer to its outcome.
 fn play_article<A: Abort>(
     rt: &A,
-    exchange: &mut Exchange,
+    exchange: &mut ConnExchange,
     number: u64,
     answers: Answers,
 ) -> Result<(), Fail> {
-    play(rt, exchange, &[Step::Offer(number, b"<x@y>")])?;
+    play(rt, exchange, &[ConnStep::Offer(number, b"<x@y>")])?;
     if answers.checked {
-        let check = [Step::Output(b"CHECK <x@y>\r\n"), Step::Line(b"238 <x@y>")];
+        let check = [
+            ConnStep::Output(b"CHECK <x@y>\r\n"),
+            ConnStep::Line(b"238 <x@y>"),
+        ];
         play(rt, exchange, &check)?;
     }
     play(
         rt,
         exchange,
         &[
-            Step::Text(number, b"t\n"),
-            Step::Line(answers.line),
-            Step::Output(b"TAKETHIS <x@y>\r\nt\r\n.\r\n"),
-            Step::Outcome(number, answers.code),
-            Step::Checks(answers.checks),
+            ConnStep::Text(number, b"t\n"),
+            ConnStep::Line(answers.line),
+            ConnStep::Output(b"TAKETHIS <x@y>\r\nt\r\n.\r\n"),
+            ConnStep::Outcome(number, answers.code),
+            ConnStep::Checks(answers.checks),
         ],
     )
 }
 
-fn play_articles<A: Abort>(rt: &A, exchange: &mut Exchange, answers: Answers) -> Result<(), Fail> {
+fn play_articles<A: Abort>(
+    rt: &A,
+    exchange: &mut ConnExchange,
+    answers: Answers,
+) -> Result<(), Fail> {
     for number in answers.first..answers.end {
         play_article(rt, exchange, number, answers)?;
     }
@@ -394,23 +411,23 @@ fn play_switched<A: Abort>(rt: &A, alloc: Global, wire: Wire) -> Result<(), Fail
 }
 
 // Checks are off once the first two rows have been played: articles are wanted at once, and each TAKETHIS is awaited.
-const UNCHECKED: &[Step] = &[
-    Step::Offer(21, b"<x@y>"),
-    Step::Offer(22, b"<z@y>"),
-    Step::Wanted(Some(21)),
-    Step::Text(21, b"t\n"),
-    Step::Wanted(Some(22)),
-    Step::Text(22, b"u\n"),
-    Step::Wanted(None),
-    Step::Output(b"TAKETHIS <x@y>\r\nt\r\n.\r\nTAKETHIS <z@y>\r\nu\r\n.\r\n"),
-    Step::Line(b"239 <x@y>"),
-    Step::Outcome(21, 239),
-    Step::Unanswered(None),
-    Step::Broken,
-    Step::Unanswered(Some(22)),
-    Step::Answered(true),
-    Step::Outcome(22, BACK),
-    Step::Unanswered(Some(22)),
+const UNCHECKED: &[ConnStep] = &[
+    ConnStep::Offer(21, b"<x@y>"),
+    ConnStep::Offer(22, b"<z@y>"),
+    ConnStep::Wanted(Some(21)),
+    ConnStep::Text(21, b"t\n"),
+    ConnStep::Wanted(Some(22)),
+    ConnStep::Text(22, b"u\n"),
+    ConnStep::Wanted(None),
+    ConnStep::Output(b"TAKETHIS <x@y>\r\nt\r\n.\r\nTAKETHIS <z@y>\r\nu\r\n.\r\n"),
+    ConnStep::Line(b"239 <x@y>"),
+    ConnStep::Outcome(21, 239),
+    ConnStep::Unanswered(None),
+    ConnStep::Broken,
+    ConnStep::Unanswered(Some(22)),
+    ConnStep::Answered(true),
+    ConnStep::Outcome(22, BACK),
+    ConnStep::Unanswered(Some(22)),
 ];
 
 fn play_unchecked<A: Abort>(rt: &A, alloc: Global, wire: Wire) -> Result<(), Fail> {

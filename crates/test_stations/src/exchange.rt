@@ -41,7 +41,7 @@ pub(crate) const WIRES: [Wire; 4] = [
 ];
 
 #[derive(Clone, Copy)]
-pub(crate) enum Step {
+pub(crate) enum ConnStep {
     // A ready connection takes a debt of this number and message-id.
     Offer(u64, &'static [u8]),
     // A debt of this number is refused, for this fault, and handed back.
@@ -78,34 +78,34 @@ pub(crate) enum Step {
 }
 
 // The connection is in a mode: streaming, with a CHECK of debt 1 sent; streaming; IHAVE.
-pub(crate) const CHECKED: &[Step] = &[
-    Step::Line(b"200"),
-    Step::Line(b"203"),
-    Step::Offer(1, b"<x@y>"),
-    Step::Output(b"MODE STREAM\r\nCHECK <x@y>\r\n"),
+pub(crate) const CHECKED: &[ConnStep] = &[
+    ConnStep::Line(b"200"),
+    ConnStep::Line(b"203"),
+    ConnStep::Offer(1, b"<x@y>"),
+    ConnStep::Output(b"MODE STREAM\r\nCHECK <x@y>\r\n"),
 ];
 
-pub(crate) const STREAMING: &[Step] = &[
-    Step::Line(b"200"),
-    Step::Line(b"203"),
-    Step::Output(b"MODE STREAM\r\n"),
+pub(crate) const STREAMING: &[ConnStep] = &[
+    ConnStep::Line(b"200"),
+    ConnStep::Line(b"203"),
+    ConnStep::Output(b"MODE STREAM\r\n"),
 ];
 
-pub(crate) const PLAIN: &[Step] = &[Step::Line(b"200")];
+pub(crate) const PLAIN: &[ConnStep] = &[ConnStep::Line(b"200")];
 
 // A whole exchange: how it begins, and goes on. At its end all output and each outcome was asked for, and the
 // connection is closed for this reason, or open.
 #[derive(Clone, Copy)]
-pub(crate) struct Row {
+pub(crate) struct ConnRow {
     pub(crate) name: &'static str,
     pub(crate) streaming: bool,
-    pub(crate) start: &'static [Step],
-    pub(crate) steps: &'static [Step],
+    pub(crate) start: &'static [ConnStep],
+    pub(crate) steps: &'static [ConnStep],
     pub(crate) closed: Option<Reason>,
 }
 
 #[derive(Drop)]
-pub(crate) struct Exchange {
+pub(crate) struct ConnExchange {
     alloc: Global,
     conn: Conn,
     wire: Wire,
@@ -115,10 +115,10 @@ pub(crate) struct Exchange {
 pub(crate) fn begin<A: Abort>(
     rt: &A,
     alloc: Global,
-    row: Row,
+    row: ConnRow,
     wire: Wire,
-) -> Result<Exchange, Fail> {
-    let mut exchange = Exchange {
+) -> Result<ConnExchange, Fail> {
+    let mut exchange = ConnExchange {
         alloc,
         conn: connection(alloc, NUMBER, row.streaming)?,
         wire,
@@ -129,7 +129,11 @@ pub(crate) fn begin<A: Abort>(
 }
 
 // Takes these steps, each of which has to give the wanted answer.
-pub(crate) fn play<A: Abort>(rt: &A, exchange: &mut Exchange, steps: &[Step]) -> Result<(), Fail> {
+pub(crate) fn play<A: Abort>(
+    rt: &A,
+    exchange: &mut ConnExchange,
+    steps: &[ConnStep],
+) -> Result<(), Fail> {
     for step in steps {
         take(rt, exchange, *step)?;
         exchange.place = exchange.place.next();
@@ -137,7 +141,12 @@ pub(crate) fn play<A: Abort>(rt: &A, exchange: &mut Exchange, steps: &[Step]) ->
     Ok(())
 }
 
-pub(crate) fn play_row<A: Abort>(rt: &A, alloc: Global, row: Row, wire: Wire) -> Result<(), Fail> {
+pub(crate) fn play_row<A: Abort>(
+    rt: &A,
+    alloc: Global,
+    row: ConnRow,
+    wire: Wire,
+) -> Result<(), Fail> {
     let mut exchange = begin(rt, alloc, row, wire)?;
     play(rt, &mut exchange, row.steps)?;
     end(rt, &mut exchange, row.closed);
@@ -145,7 +154,7 @@ pub(crate) fn play_row<A: Abort>(rt: &A, alloc: Global, row: Row, wire: Wire) ->
 }
 
 // Takes the steps of each row, for each way in which replies come in.
-pub(crate) fn play_rows<A: Abort>(rt: &A, alloc: Global, rows: &[Row]) -> Result<(), Fail> {
+pub(crate) fn play_rows<A: Abort>(rt: &A, alloc: Global, rows: &[ConnRow]) -> Result<(), Fail> {
     for row in rows {
         for wire in WIRES {
             play_row(rt, alloc, *row, wire)?;
@@ -154,48 +163,48 @@ pub(crate) fn play_rows<A: Abort>(rt: &A, alloc: Global, rows: &[Row]) -> Result
     Ok(())
 }
 
-fn take<A: Abort>(rt: &A, exchange: &mut Exchange, step: Step) -> Result<(), Fail> {
+fn take<A: Abort>(rt: &A, exchange: &mut ConnExchange, step: ConnStep) -> Result<(), Fail> {
     match step {
-        Step::Offer(number, id) => offer_debt(rt, exchange, number, id)?,
-        Step::NotOffered(number, fault) => assert_not_offered(rt, exchange, number, fault)?,
-        Step::Line(line) => reply(exchange, line)?,
-        Step::Text(number, text) => {
+        ConnStep::Offer(number, id) => offer_debt(rt, exchange, number, id)?,
+        ConnStep::NotOffered(number, fault) => assert_not_offered(rt, exchange, number, fault)?,
+        ConnStep::Line(line) => reply(exchange, line)?,
+        ConnStep::Text(number, text) => {
             let found = article(exchange.alloc, text)?;
             hand_in(rt, exchange, number, found)?;
         }
-        Step::Gone(number) => hand_in(rt, exchange, number, Found::Gone)?,
-        Step::NotNeeded(number) => assert_not_needed(rt, exchange, number)?,
-        Step::Tick(now) => exchange.conn.tick(now),
-        Step::Broken => exchange.conn.broken(),
-        Step::Quit => exchange.conn.quit(),
-        Step::Sent(count) => sent(rt, exchange, count),
+        ConnStep::Gone(number) => hand_in(rt, exchange, number, Found::Gone)?,
+        ConnStep::NotNeeded(number) => assert_not_needed(rt, exchange, number)?,
+        ConnStep::Tick(now) => exchange.conn.tick(now),
+        ConnStep::Broken => exchange.conn.broken(),
+        ConnStep::Quit => exchange.conn.quit(),
+        ConnStep::Sent(count) => sent(rt, exchange, count),
         _ => assert_told(rt, exchange, step),
     }
     Ok(())
 }
 
-fn assert_told<A: Abort>(rt: &A, exchange: &mut Exchange, step: Step) {
+fn assert_told<A: Abort>(rt: &A, exchange: &mut ConnExchange, step: ConnStep) {
     match step {
-        Step::Output(want) => {
+        ConnStep::Output(want) => {
             assert_unsent(rt, exchange, want);
             drain(exchange);
         }
-        Step::Unsent(want) => assert_unsent(rt, exchange, want),
-        Step::Outcome(number, code) => assert_outcome(rt, exchange, Some((number, code))),
-        Step::Ready(want) => assert_ready(rt, exchange, want),
-        Step::Need(want) => assert_need(rt, exchange, want),
-        Step::Checks(want) => assert_same(rt, exchange.place, &exchange.conn.checks(), &want),
-        Step::Mode(want) => assert_same(rt, exchange.place, &exchange.conn.mode(), &want),
+        ConnStep::Unsent(want) => assert_unsent(rt, exchange, want),
+        ConnStep::Outcome(number, code) => assert_outcome(rt, exchange, Some((number, code))),
+        ConnStep::Ready(want) => assert_ready(rt, exchange, want),
+        ConnStep::Need(want) => assert_need(rt, exchange, want),
+        ConnStep::Checks(want) => assert_same(rt, exchange.place, &exchange.conn.checks(), &want),
+        ConnStep::Mode(want) => assert_same(rt, exchange.place, &exchange.conn.mode(), &want),
         _ => assert_known(rt, exchange, step),
     }
 }
 
-fn assert_known<A: Abort>(rt: &A, exchange: &Exchange, step: Step) {
+fn assert_known<A: Abort>(rt: &A, exchange: &ConnExchange, step: ConnStep) {
     let conn = &exchange.conn;
     match step {
-        Step::Wanted(want) => assert_wanted(rt, exchange, want),
-        Step::Answered(want) => assert_same(rt, exchange.place, &conn.has_answered(), &want),
-        Step::Unanswered(want) => {
+        ConnStep::Wanted(want) => assert_wanted(rt, exchange, want),
+        ConnStep::Answered(want) => assert_same(rt, exchange.place, &conn.has_answered(), &want),
+        ConnStep::Unanswered(want) => {
             assert_same(
                 rt,
                 exchange.place,
@@ -203,7 +212,7 @@ fn assert_known<A: Abort>(rt: &A, exchange: &Exchange, step: Step) {
                 &want,
             )
         }
-        Step::Refused(want) => assert_refused(rt, exchange, want),
+        ConnStep::Refused(want) => assert_refused(rt, exchange, want),
         _ => {}
     }
 }
@@ -215,7 +224,7 @@ fn debt(alloc: Global, number: u64, id: &[u8]) -> Result<Debt, Fail> {
 
 fn offer_debt<A: Abort>(
     rt: &A,
-    exchange: &mut Exchange,
+    exchange: &mut ConnExchange,
     number: u64,
     id: &[u8],
 ) -> Result<(), Fail> {
@@ -226,7 +235,7 @@ fn offer_debt<A: Abort>(
 
 fn assert_not_offered<A: Abort>(
     rt: &A,
-    exchange: &mut Exchange,
+    exchange: &mut ConnExchange,
     number: u64,
     fault: OfferFault,
 ) -> Result<(), Fail> {
@@ -241,7 +250,7 @@ fn assert_not_offered<A: Abort>(
     Ok(())
 }
 
-fn reply(exchange: &mut Exchange, line: &[u8]) -> Result<(), Fail> {
+fn reply(exchange: &mut ConnExchange, line: &[u8]) -> Result<(), Fail> {
     let mut octets = Vec::from_slice(exchange.alloc, line)?;
     octets.extend_from_slice(exchange.wire.end)?;
     for piece in octets.as_slice().chunks(exchange.wire.piece.max(1)) {
@@ -252,7 +261,7 @@ fn reply(exchange: &mut Exchange, line: &[u8]) -> Result<(), Fail> {
 
 fn hand_in<A: Abort>(
     rt: &A,
-    exchange: &mut Exchange,
+    exchange: &mut ConnExchange,
     number: u64,
     found: Found,
 ) -> Result<(), Fail> {
@@ -261,7 +270,11 @@ fn hand_in<A: Abort>(
     hand(&mut exchange.conn, funnel_key(number), found)
 }
 
-fn assert_not_needed<A: Abort>(rt: &A, exchange: &mut Exchange, number: u64) -> Result<(), Fail> {
+fn assert_not_needed<A: Abort>(
+    rt: &A,
+    exchange: &mut ConnExchange,
+    number: u64,
+) -> Result<(), Fail> {
     match exchange.conn.article(funnel_key(number), Found::Gone) {
         Ok(()) => return Err(Fail::from("an article was taken that is not needed")),
         Err((found, fault)) => {
@@ -272,21 +285,21 @@ fn assert_not_needed<A: Abort>(rt: &A, exchange: &mut Exchange, number: u64) -> 
     Ok(())
 }
 
-fn sent<A: Abort>(rt: &A, exchange: &mut Exchange, count: usize) {
+fn sent<A: Abort>(rt: &A, exchange: &mut ConnExchange, count: usize) {
     assert!(rt; count <= exchange.conn.output().len());
     exchange.conn.sent(count);
 }
 
-fn drain(exchange: &mut Exchange) {
+fn drain(exchange: &mut ConnExchange) {
     let count = exchange.conn.output().len();
     exchange.conn.sent(count);
 }
 
-fn assert_unsent<A: Abort>(rt: &A, exchange: &Exchange, want: &[u8]) {
+fn assert_unsent<A: Abort>(rt: &A, exchange: &ConnExchange, want: &[u8]) {
     assert_same(rt, exchange.place, &exchange.conn.output(), &want);
 }
 
-fn assert_outcome<A: Abort>(rt: &A, exchange: &mut Exchange, want: Option<(u64, u16)>) {
+fn assert_outcome<A: Abort>(rt: &A, exchange: &mut ConnExchange, want: Option<(u64, u16)>) {
     let outcome = match exchange.conn.outcome() {
         Some(outcome) => Some(told(&outcome)),
         None => None,
@@ -302,15 +315,15 @@ fn told_key(key: Option<Key>) -> Option<u64> {
     }
 }
 
-fn assert_ready<A: Abort>(rt: &A, exchange: &Exchange, want: Ready) {
+fn assert_ready<A: Abort>(rt: &A, exchange: &ConnExchange, want: Ready) {
     assert_same(rt, exchange.place, &exchange.conn.ready(), &want);
 }
 
-fn assert_need<A: Abort>(rt: &A, exchange: &Exchange, want: Option<u64>) {
+fn assert_need<A: Abort>(rt: &A, exchange: &ConnExchange, want: Option<u64>) {
     assert_same(rt, exchange.place, &told_key(exchange.conn.need()), &want);
 }
 
-fn assert_wanted<A: Abort>(rt: &A, exchange: &Exchange, want: Option<u64>) {
+fn assert_wanted<A: Abort>(rt: &A, exchange: &ConnExchange, want: Option<u64>) {
     let wanted = match exchange.conn.wanted() {
         Some(debt) => Some(key_in_rows(debt)),
         None => None,
@@ -318,7 +331,7 @@ fn assert_wanted<A: Abort>(rt: &A, exchange: &Exchange, want: Option<u64>) {
     assert_same(rt, exchange.place, &wanted, &want);
 }
 
-fn assert_refused<A: Abort>(rt: &A, exchange: &Exchange, want: Option<(u16, &'static [u8])>) {
+fn assert_refused<A: Abort>(rt: &A, exchange: &ConnExchange, want: Option<(u16, &'static [u8])>) {
     let refused = match exchange.conn.refused() {
         Some(reply) => Some((reply.code, reply.text.as_slice())),
         None => None,
@@ -327,7 +340,7 @@ fn assert_refused<A: Abort>(rt: &A, exchange: &Exchange, want: Option<(u16, &'st
 }
 
 // Nothing more is to be asked for, and the connection is closed for this reason, or open.
-pub(crate) fn end<A: Abort>(rt: &A, exchange: &mut Exchange, closed: Option<Reason>) {
+pub(crate) fn end<A: Abort>(rt: &A, exchange: &mut ConnExchange, closed: Option<Reason>) {
     assert_unsent(rt, exchange, b"");
     assert_outcome(rt, exchange, None);
     assert_same(rt, exchange.place, &exchange.conn.closed(), &closed);

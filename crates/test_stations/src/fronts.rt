@@ -1,19 +1,20 @@
 // Fronts of stations that were split. The test copies their notes to their tapes itself.
 use crate::caller::{NOT_HELD, ONE, OTHER, SMALL, UNLIMITED};
-use crate::shared::{RowPlace, assert_same, funnel_key, in_rows, key_in_rows, names};
+use crate::shared::{RowPlace, SOURCE, assert_same, funnel_key, in_rows, key_in_rows, names};
 use conn_core::CxnId;
 use disk_model::MemDisk;
 use ledger_core::{Cause, Debt, Key, Totals};
 use peer_queue::{Front, Limits, Owed, Station, StationFault};
 use recovery::{Flushed, Tape, TapeFault};
 use std::alloc::Global;
+use std::fmt::Debug;
 use std::process::Abort;
 use std::test::Fail;
 
 const FULL: StationFault = StationFault::Tape(TapeFault::PendingFull);
 
 #[derive(Clone, Copy)]
-enum Step {
+enum FrontStep {
     // The funnel's line of this number is owed.
     Owe(u64, Result<Owed, StationFault>),
     // This many lines after this number are owed.
@@ -48,12 +49,25 @@ enum Step {
 }
 
 #[derive(Clone, Copy)]
-struct Script {
+struct FrontScript {
     name: &'static str,
     // How many lines are owed and flushed before the split.
     owed: u64,
     limits: Limits,
-    steps: &'static [Step],
+    steps: &'static [FrontStep],
+}
+
+// What a front says of itself.
+#[derive(Clone, Copy, Debug, PartialEq, Eq)]
+struct FrontSeen {
+    totals: Totals,
+    mark: u64,
+    import_mark: u64,
+    closed: u32,
+    noted: u64,
+    sent: u64,
+    room: usize,
+    all_later: bool,
 }
 
 // A front and its tape, and what the last flush answered.
@@ -88,7 +102,7 @@ fn split(station: Station<MemDisk>, place: usize) -> Result<(Front, Tape<MemDisk
     }
 }
 
-fn begin(alloc: Global, script: Script) -> Result<FrontAndTape, Fail> {
+fn begin(alloc: Global, script: FrontScript) -> Result<FrontAndTape, Fail> {
     let mut station = open(alloc, script.limits)?;
     for number in 0..script.owed {
         owe_at(&mut station, alloc, number.saturating_add(1))?;
@@ -101,6 +115,27 @@ fn begin(alloc: Global, script: Script) -> Result<FrontAndTape, Fail> {
         last: None,
         place: RowPlace::first(script.name),
     })
+}
+
+// What became of a step: its answer was the wanted one; or memory was refused.
+#[derive(Clone, Copy, PartialEq, Eq)]
+enum StepEnd {
+    Answered,
+    WithoutMemory,
+}
+
+// The wanted answer to a call, unless memory was refused.
+fn compare<A: Abort, T: PartialEq + Debug>(
+    rt: &A,
+    place: RowPlace,
+    answer: &Result<T, StationFault>,
+    want: &Result<T, StationFault>,
+) -> StepEnd {
+    if let Err(StationFault::NoMemory) = answer {
+        return StepEnd::WithoutMemory;
+    }
+    assert_same(rt, place, answer, want);
+    StepEnd::Answered
 }
 
 fn owe(split: &mut FrontAndTape, number: u64) -> Result<Result<Owed, StationFault>, Fail> {
@@ -135,7 +170,7 @@ fn lose(
 }
 
 // Whether the front has the texts of this key; if it has, they are those that were noted.
-fn has_texts<A: Abort>(rt: &A, split: &FrontAndTape, key: Key) -> Result<bool, Fail> {
+fn has_texts<A: Abort>(rt: &A, split: &FrontAndTape, key: Key) -> Result<bool, StationFault> {
     match split.front.unsettled(key)? {
         Some(debt) => {
             assert_same(rt, split.place, &key_in_rows(&debt), &in_rows(key));
@@ -176,28 +211,36 @@ fn flush<A: Abort>(rt: &A, split: &mut FrontAndTape, count: u64, want: bool) -> 
         &(flushed.place(), flushed.count()),
         &(Some(7), count),
     );
-    let told = split.front.settled(&flushed);
-    assert_same(rt, split.place, &told, &want);
+    let settled = split.front.settled(&flushed);
+    assert_same(rt, split.place, &settled, &want);
     split.last = Some(flushed);
     Ok(())
 }
 
 fn again<A: Abort>(rt: &A, split: &mut FrontAndTape, want: bool) {
     if let Some(flushed) = split.last {
-        let told = split.front.settled(&flushed);
-        assert_same(rt, split.place, &told, &want);
+        let settled = split.front.settled(&flushed);
+        assert_same(rt, split.place, &settled, &want);
     }
 }
 
-fn shed<A: Abort>(rt: &A, split: &mut FrontAndTape, count: usize, more: bool) -> Result<(), Fail> {
-    let shed = split.front.shed()?;
-    assert_same(
-        rt,
-        split.place,
-        &(shed.keys.len(), shed.more),
-        &(count, more),
-    );
+fn owe_many<A: Abort>(
+    rt: &A,
+    split: &mut FrontAndTape,
+    number: u64,
+    count: u64,
+) -> Result<(), Fail> {
+    for more in 0..count {
+        let owed = owe(split, number.saturating_add(more).saturating_add(1))??;
+        assert_same(rt, split.place, &owed, &Owed::New);
+    }
     Ok(())
+}
+
+// How many debts are shed, and whether there are more to shed.
+fn shed(split: &mut FrontAndTape) -> Result<(usize, bool), StationFault> {
+    let shed = split.front.shed()?;
+    Ok((shed.keys.len(), shed.more))
 }
 
 fn assert_totals<A: Abort>(rt: &A, split: &FrontAndTape, want: (u64, u64, u64, u64)) {
@@ -212,73 +255,95 @@ fn assert_totals<A: Abort>(rt: &A, split: &FrontAndTape, want: (u64, u64, u64, u
     assert_same(rt, split.place, &split.front.totals(), &want);
 }
 
-fn take<A: Abort>(rt: &A, split: &mut FrontAndTape, step: Step) -> Result<(), Fail> {
+// Takes a step. If memory is refused, nothing has changed, and the step is taken once more.
+fn take<A: Abort>(rt: &A, split: &mut FrontAndTape, step: FrontStep) -> Result<(), Fail> {
+    let before = seen(&split.front);
+    if call(rt, split, step)? == StepEnd::Answered {
+        return Ok(());
+    }
+    assert_same(rt, split.place, &seen(&split.front), &before);
+    if call(rt, split, step)? == StepEnd::Answered {
+        return Ok(());
+    }
+    Err(Fail::from(StationFault::NoMemory))
+}
+
+fn seen(front: &Front) -> FrontSeen {
+    FrontSeen {
+        totals: front.totals(),
+        mark: front.mark(),
+        import_mark: front.import_mark(),
+        closed: front.closed(),
+        noted: front.noted(),
+        sent: front.sent(),
+        room: front.room(),
+        all_later: front.all_later(),
+    }
+}
+
+// Makes a call that may be refused for lack of memory.
+fn call<A: Abort>(rt: &A, split: &mut FrontAndTape, step: FrontStep) -> Result<StepEnd, Fail> {
+    let end = match step {
+        FrontStep::Owe(number, want) => compare(rt, split.place, &owe(split, number)?, &want),
+        FrontStep::Import(number, want) => compare(rt, split.place, &import(split, number)?, &want),
+        FrontStep::Close(want) => compare(rt, split.place, &split.front.close_import(), &want),
+        FrontStep::Claim(connection, now, want) => {
+            compare(rt, split.place, &claim(split, connection, now), &want)
+        }
+        FrontStep::Lose(connection, number, want) => {
+            compare(rt, split.place, &lose(split, connection, number)?, &want)
+        }
+        FrontStep::Shed(count, more) => compare(rt, split.place, &shed(split), &Ok((count, more))),
+        FrontStep::Texts(number, want) => {
+            let has = has_texts(rt, split, funnel_key(number));
+            compare(rt, split.place, &has, &Ok(want))
+        }
+        _ => {
+            go_on(rt, split, step)?;
+            StepEnd::Answered
+        }
+    };
+    Ok(end)
+}
+
+// Takes a step that needs no memory, or several at once.
+fn go_on<A: Abort>(rt: &A, split: &mut FrontAndTape, step: FrontStep) -> Result<(), Fail> {
     match step {
-        Step::Owe(number, want) => {
-            let told = owe(split, number)?;
-            assert_same(rt, split.place, &told, &want);
+        FrontStep::OweMany(number, count) => owe_many(rt, split, number, count)?,
+        FrontStep::Unclaim(connection, number, want) => {
+            let unclaimed = split.front.unclaim(connection, funnel_key(number));
+            assert_same(rt, split.place, &unclaimed, &want);
         }
-        Step::OweMany(number, count) => {
-            for more in 0..count {
-                let told = owe(split, number.saturating_add(more).saturating_add(1))?;
-                assert_same(rt, split.place, &told, &Ok(Owed::New));
-            }
+        FrontStep::Release(connection, want) => {
+            let released = split.front.release(connection);
+            assert_same(rt, split.place, &released, &want);
         }
-        Step::Import(number, want) => {
-            let told = import(split, number)?;
-            assert_same(rt, split.place, &told, &want);
-        }
-        Step::Close(want) => {
-            let told = split.front.close_import();
-            assert_same(rt, split.place, &told, &want);
-        }
-        Step::Send(count) => send(rt, split, count)?,
-        Step::Flush(count, want) => flush(rt, split, count, want)?,
-        Step::Again(want) => again(rt, split, want),
-        Step::Broke => split.front.broke(),
-        Step::Shed(count, more) => shed(rt, split, count, more)?,
-        Step::Totals(taken, answered, dropped, owed) => {
-            assert_totals(rt, split, (taken, answered, dropped, owed));
-        }
-        _ => hold(rt, split, step)?,
+        FrontStep::Send(count) => send(rt, split, count)?,
+        FrontStep::Flush(count, want) => flush(rt, split, count, want)?,
+        FrontStep::Again(want) => again(rt, split, want),
+        FrontStep::Broke => split.front.broke(),
+        _ => assert_seen(rt, split, step)?,
     }
     Ok(())
 }
 
-fn hold<A: Abort>(rt: &A, split: &mut FrontAndTape, step: Step) -> Result<(), Fail> {
+fn assert_seen<A: Abort>(rt: &A, split: &FrontAndTape, step: FrontStep) -> Result<(), Fail> {
     match step {
-        Step::Claim(connection, now, want) => {
-            let told = claim(split, connection, now);
-            assert_same(rt, split.place, &told, &want);
+        FrontStep::Room(room, noted) => {
+            let seen = (split.front.room(), split.front.noted());
+            assert_same(rt, split.place, &seen, &(room, noted));
         }
-        Step::Unclaim(connection, number, want) => {
-            let told = split.front.unclaim(connection, funnel_key(number));
-            assert_same(rt, split.place, &told, &want);
+        FrontStep::Totals(taken, answered, dropped, owed) => {
+            assert_totals(rt, split, (taken, answered, dropped, owed));
         }
-        Step::Lose(connection, number, want) => {
-            let told = lose(split, connection, number)?;
-            assert_same(rt, split.place, &told, &want);
-        }
-        Step::Release(connection, want) => {
-            let told = split.front.release(connection);
-            assert_same(rt, split.place, &told, &want);
-        }
-        Step::Texts(number, want) => {
-            let told = has_texts(rt, split, funnel_key(number))?;
-            assert_same(rt, split.place, &told, &want);
-        }
-        Step::Room(room, noted) => {
-            let told = (split.front.room(), split.front.noted());
-            assert_same(rt, split.place, &told, &(room, noted));
-        }
-        Step::Mark(want) => assert_same(rt, split.place, &split.front.mark(), &want),
-        Step::AllLater(want) => assert_same(rt, split.place, &split.front.all_later(), &want),
+        FrontStep::Mark(want) => assert_same(rt, split.place, &split.front.mark(), &want),
+        FrontStep::AllLater(want) => assert_same(rt, split.place, &split.front.all_later(), &want),
         _ => return Err(Fail::from("a step that is taken elsewhere")),
     }
     Ok(())
 }
 
-fn play<A: Abort>(rt: &A, alloc: Global, script: Script) -> Result<FrontAndTape, Fail> {
+fn play<A: Abort>(rt: &A, alloc: Global, script: FrontScript) -> Result<FrontAndTape, Fail> {
     let mut split = begin(alloc, script)?;
     for step in script.steps {
         take(rt, &mut split, *step)?;
@@ -287,125 +352,145 @@ fn play<A: Abort>(rt: &A, alloc: Global, script: Script) -> Result<FrontAndTape,
     Ok(split)
 }
 
-fn play_all<A: Abort>(rt: &A, alloc: Global, scripts: &[Script]) -> Result<(), Fail> {
+fn play_all<A: Abort>(rt: &A, alloc: Global, scripts: &[FrontScript]) -> Result<(), Fail> {
     for script in scripts {
         play(rt, alloc, *script)?;
     }
     Ok(())
 }
 
-const SCRIPTS: &[Script] = &[
-    Script {
+const SCRIPTS: &[FrontScript] = &[
+    FrontScript {
         name: "texts before and after the flush",
         owed: 1,
         limits: UNLIMITED,
         steps: &[
             // What was owed at the split is only on the tape.
-            Step::Texts(1, false),
-            Step::Owe(1, Ok(Owed::Already)),
-            Step::Owe(2, Ok(Owed::New)),
-            Step::Owe(3, Ok(Owed::New)),
-            Step::Room(65534, 3),
-            Step::Texts(2, true),
-            Step::Texts(3, true),
-            Step::Texts(4, false),
-            Step::Send(1),
-            Step::Flush(2, true),
-            Step::Room(65535, 3),
+            FrontStep::Texts(1, false),
+            FrontStep::Owe(1, Ok(Owed::Already)),
+            FrontStep::Owe(2, Ok(Owed::New)),
+            FrontStep::Owe(3, Ok(Owed::New)),
+            FrontStep::Room(65534, 3),
+            FrontStep::Texts(2, true),
+            FrontStep::Texts(3, true),
+            FrontStep::Texts(4, false),
+            FrontStep::Send(1),
+            FrontStep::Flush(2, true),
+            FrontStep::Room(65535, 3),
             // It still has the texts.
-            Step::Texts(2, true),
-            Step::Again(true),
-            Step::Send(1),
-            Step::Flush(3, true),
-            Step::Room(65536, 3),
-            Step::Texts(3, true),
-            Step::Totals(3, 0, 0, 3),
-            Step::Mark(3),
+            FrontStep::Texts(2, true),
+            FrontStep::Again(true),
+            FrontStep::Send(1),
+            FrontStep::Flush(3, true),
+            FrontStep::Room(65536, 3),
+            FrontStep::Texts(3, true),
+            FrontStep::Totals(3, 0, 0, 3),
+            FrontStep::Mark(3),
         ],
     },
-    Script {
+    FrontScript {
         name: "keys are claimed and given back",
         owed: 2,
         limits: UNLIMITED,
         steps: &[
-            Step::Claim(ONE, 0, Ok(1)),
-            Step::Claim(ONE, 0, Ok(2)),
-            Step::Claim(OTHER, 0, Ok(0)),
-            Step::AllLater(false),
-            Step::Unclaim(OTHER, 2, Err(NOT_HELD)),
-            Step::Unclaim(ONE, 3, Err(NOT_HELD)),
-            Step::Unclaim(ONE, 2, Ok(())),
-            Step::Unclaim(ONE, 2, Err(NOT_HELD)),
-            Step::Claim(OTHER, 0, Ok(2)),
-            Step::Lose(ONE, 2, Err(NOT_HELD)),
-            Step::Lose(OTHER, 2, Ok(())),
-            Step::Release(ONE, 1),
-            Step::Totals(2, 0, 1, 1),
-            Step::Room(65535, 3),
+            FrontStep::Claim(ONE, 0, Ok(1)),
+            FrontStep::Claim(ONE, 0, Ok(2)),
+            FrontStep::Claim(OTHER, 0, Ok(0)),
+            FrontStep::AllLater(false),
+            FrontStep::Unclaim(OTHER, 2, Err(NOT_HELD)),
+            FrontStep::Unclaim(ONE, 3, Err(NOT_HELD)),
+            FrontStep::Unclaim(ONE, 2, Ok(())),
+            FrontStep::Unclaim(ONE, 2, Err(NOT_HELD)),
+            FrontStep::Claim(OTHER, 0, Ok(2)),
+            FrontStep::Lose(ONE, 2, Err(NOT_HELD)),
+            FrontStep::Lose(OTHER, 2, Ok(())),
+            FrontStep::Release(ONE, 1),
+            FrontStep::Totals(2, 0, 1, 1),
+            FrontStep::Room(65535, 3),
         ],
     },
-    Script {
+    FrontScript {
         name: "what was not sent is not settled",
         owed: 0,
         limits: UNLIMITED,
         steps: &[
-            Step::Owe(1, Ok(Owed::New)),
-            Step::Owe(2, Ok(Owed::New)),
-            Step::Flush(0, true),
-            Step::Room(65534, 2),
-            Step::Send(2),
-            Step::Room(65534, 2),
-            Step::Flush(2, true),
-            Step::Room(65536, 2),
+            FrontStep::Owe(1, Ok(Owed::New)),
+            FrontStep::Owe(2, Ok(Owed::New)),
+            FrontStep::Flush(0, true),
+            FrontStep::Room(65534, 2),
+            FrontStep::Send(2),
+            FrontStep::Room(65534, 2),
+            FrontStep::Flush(2, true),
+            FrontStep::Room(65536, 2),
         ],
     },
-    Script {
+    FrontScript {
         name: "sources are taken in",
         owed: 0,
         limits: UNLIMITED,
         steps: &[
-            Step::Import(5, Ok(Owed::New)),
-            Step::Import(5, Ok(Owed::Already)),
-            Step::Close(Ok(1)),
-            Step::Import(1, Ok(Owed::New)),
-            Step::Owe(9, Ok(Owed::New)),
-            Step::Claim(ONE, 0, Ok(9)),
-            Step::Send(4),
-            Step::Flush(4, true),
+            FrontStep::Import(5, Ok(Owed::New)),
+            FrontStep::Import(5, Ok(Owed::Already)),
+            FrontStep::Close(Ok(1)),
+            FrontStep::Import(1, Ok(Owed::New)),
+            FrontStep::Owe(9, Ok(Owed::New)),
+            FrontStep::Claim(ONE, 0, Ok(9)),
+            FrontStep::Send(4),
+            FrontStep::Flush(4, true),
         ],
     },
-    Script {
+    FrontScript {
         name: "what exceeds the limit is shed",
         owed: 4,
         limits: SMALL,
         steps: &[
-            Step::Claim(ONE, 0, Ok(1)),
-            Step::Shed(3, false),
-            Step::Shed(0, false),
-            Step::Totals(4, 0, 3, 1),
-            Step::Send(3),
-            Step::Flush(7, true),
+            FrontStep::Claim(ONE, 0, Ok(1)),
+            FrontStep::Shed(3, false),
+            FrontStep::Shed(0, false),
+            FrontStep::Totals(4, 0, 3, 1),
+            FrontStep::Send(3),
+            FrontStep::Flush(7, true),
         ],
     },
-    Script {
+    // Each call that takes memory, whose refusal changes nothing.
+    FrontScript {
+        name: "each call that takes memory",
+        owed: 1,
+        limits: SMALL,
+        steps: &[
+            FrontStep::Owe(2, Ok(Owed::New)),
+            FrontStep::Import(5, Ok(Owed::New)),
+            FrontStep::Close(Ok(1)),
+            FrontStep::Texts(2, true),
+            FrontStep::Claim(ONE, 0, Ok(1)),
+            FrontStep::Lose(ONE, 1, Ok(())),
+            FrontStep::Owe(3, Ok(Owed::New)),
+            FrontStep::Shed(2, false),
+            FrontStep::Claim(ONE, 0, Ok(SOURCE + 5)),
+            FrontStep::Totals(4, 0, 3, 1),
+            FrontStep::Mark(3),
+            FrontStep::Room(65529, 8),
+        ],
+    },
+    FrontScript {
         name: "a tape that broke",
         owed: 1,
         limits: UNLIMITED,
         steps: &[
-            Step::Owe(2, Ok(Owed::New)),
-            Step::Claim(ONE, 0, Ok(1)),
-            Step::Broke,
-            Step::Owe(3, Err(StationFault::Broken)),
-            Step::Owe(1, Err(StationFault::Broken)),
-            Step::Import(1, Err(StationFault::Broken)),
-            Step::Close(Err(StationFault::Broken)),
-            Step::Claim(OTHER, 0, Err(StationFault::Broken)),
-            Step::Unclaim(ONE, 1, Err(StationFault::Broken)),
-            Step::Lose(ONE, 1, Err(StationFault::Broken)),
-            Step::Release(ONE, 1),
-            Step::Texts(2, true),
-            Step::Totals(2, 0, 0, 2),
-            Step::Room(65535, 2),
+            FrontStep::Owe(2, Ok(Owed::New)),
+            FrontStep::Claim(ONE, 0, Ok(1)),
+            FrontStep::Broke,
+            FrontStep::Owe(3, Err(StationFault::Broken)),
+            FrontStep::Owe(1, Err(StationFault::Broken)),
+            FrontStep::Import(1, Err(StationFault::Broken)),
+            FrontStep::Close(Err(StationFault::Broken)),
+            FrontStep::Claim(OTHER, 0, Err(StationFault::Broken)),
+            FrontStep::Unclaim(ONE, 1, Err(StationFault::Broken)),
+            FrontStep::Lose(ONE, 1, Err(StationFault::Broken)),
+            FrontStep::Release(ONE, 1),
+            FrontStep::Texts(2, true),
+            FrontStep::Totals(2, 0, 0, 2),
+            FrontStep::Room(65535, 2),
         ],
     },
 ];
@@ -416,21 +501,21 @@ fn fronts_are_played(rt: HostRuntime) -> Result<(), Fail> {
 }
 
 // 8,193 notes are settled: the front lets go of the texts of the first.
-const LYING: Script = Script {
+const LYING: FrontScript = FrontScript {
     name: "settled notes lie on",
     owed: 0,
     limits: UNLIMITED,
     steps: &[
-        Step::OweMany(0, 8193),
-        Step::Send(8192),
-        Step::Flush(8192, true),
-        Step::Texts(1, true),
-        Step::Send(1),
-        Step::Flush(8193, true),
-        Step::Texts(1, false),
-        Step::Texts(2, true),
-        Step::Texts(8193, true),
-        Step::Claim(ONE, 0, Ok(1)),
+        FrontStep::OweMany(0, 8193),
+        FrontStep::Send(8192),
+        FrontStep::Flush(8192, true),
+        FrontStep::Texts(1, true),
+        FrontStep::Send(1),
+        FrontStep::Flush(8193, true),
+        FrontStep::Texts(1, false),
+        FrontStep::Texts(2, true),
+        FrontStep::Texts(8193, true),
+        FrontStep::Claim(ONE, 0, Ok(1)),
     ],
 };
 
@@ -441,25 +526,25 @@ fn settled_texts_lie_on_for_a_while(rt: HostRuntime) -> Result<(), Fail> {
 }
 
 // 65,536 notes pend: no more are taken until some are settled.
-const FILLED: Script = Script {
+const FILLED: FrontScript = FrontScript {
     name: "too many notes pend",
     owed: 1,
     limits: UNLIMITED,
     steps: &[
-        Step::OweMany(1, 65535),
-        Step::Claim(ONE, 0, Ok(1)),
-        Step::Lose(ONE, 1, Ok(())),
-        Step::Room(0, 65537),
-        Step::Owe(65537, Err(FULL)),
-        Step::Owe(65536, Ok(Owed::Already)),
-        Step::Close(Err(FULL)),
-        Step::Claim(ONE, 0, Ok(2)),
-        Step::Lose(ONE, 2, Err(FULL)),
-        Step::Unclaim(ONE, 2, Ok(())),
-        Step::Send(1),
-        Step::Flush(2, true),
-        Step::Room(1, 65537),
-        Step::Owe(65537, Ok(Owed::New)),
+        FrontStep::OweMany(1, 65535),
+        FrontStep::Claim(ONE, 0, Ok(1)),
+        FrontStep::Lose(ONE, 1, Ok(())),
+        FrontStep::Room(0, 65537),
+        FrontStep::Owe(65537, Err(FULL)),
+        FrontStep::Owe(65536, Ok(Owed::Already)),
+        FrontStep::Close(Err(FULL)),
+        FrontStep::Claim(ONE, 0, Ok(2)),
+        FrontStep::Lose(ONE, 2, Err(FULL)),
+        FrontStep::Unclaim(ONE, 2, Ok(())),
+        FrontStep::Send(1),
+        FrontStep::Flush(2, true),
+        FrontStep::Room(1, 65537),
+        FrontStep::Owe(65537, Ok(Owed::New)),
     ],
 };
 
@@ -475,8 +560,8 @@ fn settle_by_other<A: Abort>(rt: &A, alloc: Global) -> Result<(), Fail> {
     let (mut front, _tape) = split(open(alloc, UNLIMITED)?, 1)?;
     let (_front, mut tape) = split(open(alloc, UNLIMITED)?, 2)?;
     let flushed = tape.flush()?;
-    let told = front.settled(&flushed);
-    assert_same(rt, place, &told, &false);
+    let settled = front.settled(&flushed);
+    assert_same(rt, place, &settled, &false);
     Ok(())
 }
 

@@ -1,6 +1,7 @@
 // Scripts of stations that are opened again, rotated, or stopped in a flush. Each debt has ten octets.
 use crate::caller::{
-    NOT_HELD, ONE, OTHER, Reopening, SMALL, Script, Step, UNLIMITED, assert_octets, play_scripts,
+    NOT_HELD, ONE, OTHER, Reopening, SMALL, StationScript, StationStep, UNLIMITED, assert_octets,
+    play_scripts,
 };
 use crate::shared::{RowPlace, assert_same};
 use disk_model::{Disk, MemDisk};
@@ -36,244 +37,250 @@ const MIXED: Limits = Limits {
 
 // A mixed run of ten debts: two are answered, one is lost, one is deferred and dropped, three are shed, and one stays
 // held.
-const REOPENING: &[Script] = &[
-    Script {
+const REOPENING: &[StationScript] = &[
+    StationScript {
         name: "an article is taken",
         owed: 0,
         limits: UNLIMITED,
         steps: &[
-            Step::Owe(1, Ok(Owed::New)),
-            Step::Claim(ONE, 0, Ok(1)),
-            Step::Taken(1),
-            Step::Settle(ONE, 1, Ok(())),
-            Step::Flush(Ok(2)),
+            StationStep::Owe(1, Ok(Owed::New)),
+            StationStep::Claim(ONE, 0, Ok(1)),
+            StationStep::Taken(1),
+            StationStep::Settle(ONE, 1, Ok(())),
+            StationStep::Flush(Ok(2)),
         ],
         opened: &[],
         tape: Some((&ANSWERED, &[])),
     },
-    Script {
+    StationScript {
         name: "all is ready after opening",
         owed: 3,
         limits: UNLIMITED,
         steps: &[
-            Step::Flush(Ok(3)),
-            Step::Claim(ONE, 1000, Ok(1)),
-            Step::WantedLater(1),
-            Step::Defer(ONE, 1, 1000, Ok(())),
-            Step::Claim(ONE, 0, Ok(2)),
-            Step::Owe(4, Ok(Owed::New)),
-            Step::Mark(4),
+            StationStep::Flush(Ok(3)),
+            StationStep::Claim(ONE, 1000, Ok(1)),
+            StationStep::WantedLater(1),
+            StationStep::Defer(ONE, 1, 1000, Ok(())),
+            StationStep::Claim(ONE, 0, Ok(2)),
+            StationStep::Owe(4, Ok(Owed::New)),
+            StationStep::Mark(4),
         ],
         opened: &[(
             Reopening::Again(UNLIMITED),
             &[
-                Step::Mark(3),
-                Step::Release(ONE, 0),
-                Step::Claim(OTHER, 0, Ok(1)),
-                Step::Claim(OTHER, 0, Ok(2)),
-                Step::Claim(OTHER, 0, Ok(3)),
-                Step::Claim(ONE, u64::MAX, Ok(0)),
-                Step::Owe(4, Ok(Owed::New)),
+                StationStep::Mark(3),
+                StationStep::Release(ONE, 0),
+                StationStep::Claim(OTHER, 0, Ok(1)),
+                StationStep::Claim(OTHER, 0, Ok(2)),
+                StationStep::Claim(OTHER, 0, Ok(3)),
+                StationStep::Claim(ONE, u64::MAX, Ok(0)),
+                StationStep::Owe(4, Ok(Owed::New)),
             ],
         )],
         tape: None,
     },
-    Script {
+    StationScript {
         name: "what was flushed is opened again",
         owed: 2,
         limits: SMALL,
-        steps: &[Step::Claim(ONE, 0, Ok(1)), Step::Totals(2, 0, 0, 2)],
+        steps: &[
+            StationStep::Claim(ONE, 0, Ok(1)),
+            StationStep::Totals(2, 0, 0, 2),
+        ],
         opened: &[(
             Reopening::Flushed,
             &[
-                Step::Totals(2, 0, 0, 2),
-                Step::Owe(3, Ok(Owed::New)),
-                Step::Shed(&[1, 2], false),
+                StationStep::Totals(2, 0, 0, 2),
+                StationStep::Owe(3, Ok(Owed::New)),
+                StationStep::Shed(&[1, 2], false),
             ],
         )],
         tape: None,
     },
-    Script {
+    StationScript {
         name: "a failed flush breaks a station",
         owed: 3,
         limits: UNLIMITED,
-        steps: &[Step::Flush(Ok(3))],
+        steps: &[StationStep::Flush(Ok(3))],
         opened: &[(
             // Each claim reads with two calls.
             Reopening::Fused(SMALL, 6),
             &[
-                Step::Claim(ONE, 0, Ok(1)),
-                Step::Claim(ONE, 0, Ok(2)),
-                Step::Claim(ONE, 0, Ok(3)),
-                Step::NotWanted(1),
-                Step::WantedLater(2),
-                Step::Owe(4, Ok(Owed::New)),
-                Step::Flush(Err(DISK)),
-                Step::Owe(5, Err(BROKEN)),
-                Step::Import(1, Err(BROKEN)),
-                Step::Close(Err(BROKEN)),
-                Step::Claim(ONE, 0, Err(BROKEN)),
-                Step::Settle(ONE, 1, Err(BROKEN)),
-                Step::Defer(ONE, 2, 0, Err(BROKEN)),
-                Step::Lose(ONE, 3, Err(BROKEN)),
-                Step::Back(OTHER, 3, Err(BROKEN)),
-                Step::PutOff(OTHER, 3, 60, Err(BROKEN)),
-                Step::Finish(ONE, 1, 0, Err(BROKEN)),
-                Step::ShedRefused(BROKEN),
-                Step::Debt(1, Err(BROKEN)),
-                Step::Flush(Err(BROKEN)),
+                StationStep::Claim(ONE, 0, Ok(1)),
+                StationStep::Claim(ONE, 0, Ok(2)),
+                StationStep::Claim(ONE, 0, Ok(3)),
+                StationStep::NotWanted(1),
+                StationStep::WantedLater(2),
+                StationStep::Owe(4, Ok(Owed::New)),
+                StationStep::Flush(Err(DISK)),
+                StationStep::Owe(5, Err(BROKEN)),
+                StationStep::Import(1, Err(BROKEN)),
+                StationStep::Close(Err(BROKEN)),
+                StationStep::Claim(ONE, 0, Err(BROKEN)),
+                StationStep::Settle(ONE, 1, Err(BROKEN)),
+                StationStep::Defer(ONE, 2, 0, Err(BROKEN)),
+                StationStep::Lose(ONE, 3, Err(BROKEN)),
+                StationStep::Back(OTHER, 3, Err(BROKEN)),
+                StationStep::PutOff(OTHER, 3, 60, Err(BROKEN)),
+                StationStep::Finish(ONE, 1, 0, Err(BROKEN)),
+                StationStep::ShedRefused(BROKEN),
+                StationStep::Debt(1, Err(BROKEN)),
+                StationStep::Flush(Err(BROKEN)),
             ],
         )],
         tape: None,
     },
-    Script {
+    StationScript {
         name: "a broken station still answers",
         owed: 3,
         limits: UNLIMITED,
-        steps: &[Step::Flush(Ok(3))],
+        steps: &[StationStep::Flush(Ok(3))],
         opened: &[
             (
                 // The claim reads with two calls.
                 Reopening::Fused(UNLIMITED, 2),
                 &[
-                    Step::Owe(4, Ok(Owed::New)),
-                    Step::Claim(ONE, 0, Ok(1)),
-                    Step::Totals(4, 0, 0, 4),
-                    Step::Flush(Err(DISK)),
-                    Step::Release(ONE, 1),
-                    Step::Totals(4, 0, 0, 4),
-                    Step::Mark(4),
-                    Step::List(&[1, 2, 3, 4]),
+                    StationStep::Owe(4, Ok(Owed::New)),
+                    StationStep::Claim(ONE, 0, Ok(1)),
+                    StationStep::Totals(4, 0, 0, 4),
+                    StationStep::Flush(Err(DISK)),
+                    StationStep::Release(ONE, 1),
+                    StationStep::Totals(4, 0, 0, 4),
+                    StationStep::Mark(4),
+                    StationStep::List(&[1, 2, 3, 4]),
                 ],
             ),
-            (Reopening::Again(UNLIMITED), &[Step::List(&[1, 2, 3])]),
+            (
+                Reopening::Again(UNLIMITED),
+                &[StationStep::List(&[1, 2, 3])],
+            ),
         ],
         tape: None,
     },
-    Script {
+    StationScript {
         name: "what was taken is owed or has ended",
         owed: 10,
         limits: MIXED,
         steps: &[
-            Step::Claim(ONE, 0, Ok(1)),
-            Step::NotWanted(1),
-            Step::Settle(ONE, 1, Ok(())),
-            Step::Claim(ONE, 0, Ok(2)),
-            Step::Claim(ONE, 0, Ok(3)),
-            Step::Claim(ONE, 0, Ok(4)),
-            Step::NotWanted(2),
-            Step::WantedLater(3),
-            Step::Settle(ONE, 2, Ok(())),
-            Step::Defer(ONE, 3, 0, Ok(())),
-            Step::Lose(ONE, 4, Ok(())),
-            Step::Claim(ONE, 0, Ok(5)),
-            Step::Shed(&[6, 7, 8], false),
-            Step::Flush(Ok(17)),
-            Step::Totals(10, 2, 5, 3),
-            Step::List(&[5, 9, 10]),
+            StationStep::Claim(ONE, 0, Ok(1)),
+            StationStep::NotWanted(1),
+            StationStep::Settle(ONE, 1, Ok(())),
+            StationStep::Claim(ONE, 0, Ok(2)),
+            StationStep::Claim(ONE, 0, Ok(3)),
+            StationStep::Claim(ONE, 0, Ok(4)),
+            StationStep::NotWanted(2),
+            StationStep::WantedLater(3),
+            StationStep::Settle(ONE, 2, Ok(())),
+            StationStep::Defer(ONE, 3, 0, Ok(())),
+            StationStep::Lose(ONE, 4, Ok(())),
+            StationStep::Claim(ONE, 0, Ok(5)),
+            StationStep::Shed(&[6, 7, 8], false),
+            StationStep::Flush(Ok(17)),
+            StationStep::Totals(10, 2, 5, 3),
+            StationStep::List(&[5, 9, 10]),
         ],
-        opened: &[(Reopening::Again(MIXED), &[Step::Totals(10, 2, 5, 3)])],
+        opened: &[(Reopening::Again(MIXED), &[StationStep::Totals(10, 2, 5, 3)])],
         tape: None,
     },
 ];
 
-const CANNOT_READ: &[Step] = &[
-    Step::Claim(ONE, 0, Err(DISK)),
-    Step::Debt(2, Err(DISK)),
-    Step::Claim(ONE, 0, Err(DISK)),
-    Step::Totals(3, 0, 0, 3),
-    Step::List(&[1, 2, 3]),
-    Step::Release(ONE, 0),
+const CANNOT_READ: &[StationStep] = &[
+    StationStep::Claim(ONE, 0, Err(DISK)),
+    StationStep::Debt(2, Err(DISK)),
+    StationStep::Claim(ONE, 0, Err(DISK)),
+    StationStep::Totals(3, 0, 0, 3),
+    StationStep::List(&[1, 2, 3]),
+    StationStep::Release(ONE, 0),
     // The station goes on working: a pending note is not read from the disk.
-    Step::Owe(4, Ok(Owed::New)),
-    Step::Debt(4, Ok(4)),
-    Step::Claim(ONE, 0, Err(DISK)),
-    Step::Totals(4, 0, 0, 4),
-    Step::List(&[1, 2, 3, 4]),
+    StationStep::Owe(4, Ok(Owed::New)),
+    StationStep::Debt(4, Ok(4)),
+    StationStep::Claim(ONE, 0, Err(DISK)),
+    StationStep::Totals(4, 0, 0, 4),
+    StationStep::List(&[1, 2, 3, 4]),
 ];
 
-const READS_AGAIN: &[Step] = &[
-    Step::Totals(3, 0, 0, 3),
-    Step::List(&[1, 2, 3]),
-    Step::Claim(ONE, 0, Ok(1)),
-    Step::Debt(3, Ok(3)),
+const READS_AGAIN: &[StationStep] = &[
+    StationStep::Totals(3, 0, 0, 3),
+    StationStep::List(&[1, 2, 3]),
+    StationStep::Claim(ONE, 0, Ok(1)),
+    StationStep::Debt(3, Ok(3)),
 ];
 
 // Two calls of the first disk read a debt. If one fails, the debt is still owed in its place, and the station works.
-const READING: &[Script] = &[
-    Script {
+const READING: &[StationScript] = &[
+    StationScript {
         name: "a claim whose first call fails",
         owed: 3,
         limits: UNLIMITED,
-        steps: &[Step::Flush(Ok(3))],
+        steps: &[StationStep::Flush(Ok(3))],
         opened: &[
             (Reopening::Fused(UNLIMITED, 0), CANNOT_READ),
             (Reopening::Again(UNLIMITED), READS_AGAIN),
         ],
         tape: None,
     },
-    Script {
+    StationScript {
         name: "a claim whose second call fails",
         owed: 3,
         limits: UNLIMITED,
-        steps: &[Step::Flush(Ok(3))],
+        steps: &[StationStep::Flush(Ok(3))],
         opened: &[
             (Reopening::Fused(UNLIMITED, 1), CANNOT_READ),
             (Reopening::Again(UNLIMITED), READS_AGAIN),
         ],
         tape: None,
     },
-    Script {
+    StationScript {
         name: "a rotation that cannot read",
         owed: 3,
         limits: UNLIMITED,
-        steps: &[Step::Flush(Ok(3))],
+        steps: &[StationStep::Flush(Ok(3))],
         opened: &[
             (
                 Reopening::Fused(UNLIMITED, 0),
                 &[
-                    Step::Rotate(Err(DISK)),
-                    Step::Rotate(Err(BROKEN)),
-                    Step::Claim(ONE, 0, Err(BROKEN)),
-                    Step::Totals(3, 0, 0, 3),
+                    StationStep::Rotate(Err(DISK)),
+                    StationStep::Rotate(Err(BROKEN)),
+                    StationStep::Claim(ONE, 0, Err(BROKEN)),
+                    StationStep::Totals(3, 0, 0, 3),
                 ],
             ),
             (Reopening::Again(UNLIMITED), READS_AGAIN),
         ],
         tape: None,
     },
-    Script {
+    StationScript {
         name: "debts are read where they stand",
         owed: 3,
         limits: UNLIMITED,
         steps: &[
-            Step::Debt(1, Ok(1)),
-            Step::Flush(Ok(3)),
-            Step::Debt(1, Ok(1)),
-            Step::Owe(4, Ok(Owed::New)),
-            Step::Debt(3, Ok(3)),
-            Step::Debt(4, Ok(4)),
-            Step::Rotate(Ok(1)),
-            Step::Debt(1, Ok(1)),
-            Step::Debt(4, Ok(4)),
-            Step::Owe(5, Ok(Owed::New)),
-            Step::Claim(ONE, 0, Ok(1)),
-            Step::NotWanted(1),
-            Step::Settle(ONE, 1, Ok(())),
-            Step::Debt(5, Ok(5)),
-            Step::Flush(Ok(6)),
-            Step::Debt(2, Ok(2)),
-            Step::Debt(5, Ok(5)),
-            Step::Rotate(Ok(2)),
-            Step::Debt(2, Ok(2)),
-            Step::Debt(5, Ok(5)),
+            StationStep::Debt(1, Ok(1)),
+            StationStep::Flush(Ok(3)),
+            StationStep::Debt(1, Ok(1)),
+            StationStep::Owe(4, Ok(Owed::New)),
+            StationStep::Debt(3, Ok(3)),
+            StationStep::Debt(4, Ok(4)),
+            StationStep::Rotate(Ok(1)),
+            StationStep::Debt(1, Ok(1)),
+            StationStep::Debt(4, Ok(4)),
+            StationStep::Owe(5, Ok(Owed::New)),
+            StationStep::Claim(ONE, 0, Ok(1)),
+            StationStep::NotWanted(1),
+            StationStep::Settle(ONE, 1, Ok(())),
+            StationStep::Debt(5, Ok(5)),
+            StationStep::Flush(Ok(6)),
+            StationStep::Debt(2, Ok(2)),
+            StationStep::Debt(5, Ok(5)),
+            StationStep::Rotate(Ok(2)),
+            StationStep::Debt(2, Ok(2)),
+            StationStep::Debt(5, Ok(5)),
         ],
         opened: &[(
             Reopening::Again(UNLIMITED),
             &[
-                Step::List(&[2, 3, 4, 5]),
-                Step::Debt(2, Ok(2)),
-                Step::Debt(5, Ok(5)),
+                StationStep::List(&[2, 3, 4, 5]),
+                StationStep::Debt(2, Ok(2)),
+                StationStep::Debt(5, Ok(5)),
             ],
         )],
         tape: None,
@@ -285,197 +292,200 @@ fn debts_are_read_from_the_tape(rt: HostRuntime) -> Result<(), Fail> {
     play_scripts(&rt, rt.alloc(), READING)
 }
 
-const FAILS: &[Step] = &[
-    Step::Owe(4, Ok(Owed::New)),
-    Step::Owe(5, Ok(Owed::New)),
-    Step::Flush(Err(DISK)),
+const FAILS: &[StationStep] = &[
+    StationStep::Owe(4, Ok(Owed::New)),
+    StationStep::Owe(5, Ok(Owed::New)),
+    StationStep::Flush(Err(DISK)),
 ];
 
-const KEEPS: &[Step] = &[Step::ListBetween(&[1, 2, 3], &[1, 2, 3, 4, 5])];
+const KEEPS: &[StationStep] = &[StationStep::ListBetween(&[1, 2, 3], &[1, 2, 3, 4, 5])];
 
 // If a flush of the numbers 4 and 5 fails after this many calls of the first disk, it keeps the three debts before
 // them, and nothing that was not owed. It makes one write, a sync, a write of the gate of their batch, and a sync.
-const CUT: &[Script] = &[
-    Script {
+const CUT: &[StationScript] = &[
+    StationScript {
         name: "a flush that fails after no call",
         owed: 3,
         limits: UNLIMITED,
-        steps: &[Step::Flush(Ok(3))],
+        steps: &[StationStep::Flush(Ok(3))],
         opened: &[
             (Reopening::Fused(UNLIMITED, 0), FAILS),
             (Reopening::Again(UNLIMITED), KEEPS),
         ],
         tape: None,
     },
-    Script {
+    StationScript {
         name: "a flush that fails after 1 call",
         owed: 3,
         limits: UNLIMITED,
-        steps: &[Step::Flush(Ok(3))],
+        steps: &[StationStep::Flush(Ok(3))],
         opened: &[
             (Reopening::Fused(UNLIMITED, 1), FAILS),
             (Reopening::Again(UNLIMITED), KEEPS),
         ],
         tape: None,
     },
-    Script {
+    StationScript {
         name: "a flush that fails after 2 calls",
         owed: 3,
         limits: UNLIMITED,
-        steps: &[Step::Flush(Ok(3))],
+        steps: &[StationStep::Flush(Ok(3))],
         opened: &[
             (Reopening::Fused(UNLIMITED, 2), FAILS),
             (Reopening::Again(UNLIMITED), KEEPS),
         ],
         tape: None,
     },
-    Script {
+    StationScript {
         name: "a flush that fails after 3 calls",
         owed: 3,
         limits: UNLIMITED,
-        steps: &[Step::Flush(Ok(3))],
+        steps: &[StationStep::Flush(Ok(3))],
         opened: &[
             (Reopening::Fused(UNLIMITED, 3), FAILS),
             (Reopening::Again(UNLIMITED), KEEPS),
         ],
         tape: None,
     },
-    Script {
+    StationScript {
         name: "a flush that makes its 4 calls",
         owed: 3,
         limits: UNLIMITED,
-        steps: &[Step::Flush(Ok(3))],
+        steps: &[StationStep::Flush(Ok(3))],
         opened: &[
             (
                 Reopening::Fused(UNLIMITED, 4),
                 &[
-                    Step::Owe(4, Ok(Owed::New)),
-                    Step::Owe(5, Ok(Owed::New)),
-                    Step::Flush(Ok(2)),
-                    Step::Owe(6, Ok(Owed::New)),
-                    Step::Flush(Err(DISK)),
+                    StationStep::Owe(4, Ok(Owed::New)),
+                    StationStep::Owe(5, Ok(Owed::New)),
+                    StationStep::Flush(Ok(2)),
+                    StationStep::Owe(6, Ok(Owed::New)),
+                    StationStep::Flush(Err(DISK)),
                 ],
             ),
-            (Reopening::Again(UNLIMITED), &[Step::List(&[1, 2, 3, 4, 5])]),
+            (
+                Reopening::Again(UNLIMITED),
+                &[StationStep::List(&[1, 2, 3, 4, 5])],
+            ),
         ],
         tape: None,
     },
 ];
 
-const FAILS_TO_ROTATE: &[Step] = &[
-    Step::Owe(4, Ok(Owed::New)),
-    Step::Claim(ONE, 0, Ok(1)),
-    Step::Rotate(Err(DISK)),
-    Step::Rotate(Err(BROKEN)),
-    Step::Flush(Err(BROKEN)),
-    Step::Claim(ONE, 0, Err(BROKEN)),
-    Step::Release(ONE, 1),
-    Step::Totals(4, 0, 0, 4),
-    Step::List(&[1, 2, 3, 4]),
+const FAILS_TO_ROTATE: &[StationStep] = &[
+    StationStep::Owe(4, Ok(Owed::New)),
+    StationStep::Claim(ONE, 0, Ok(1)),
+    StationStep::Rotate(Err(DISK)),
+    StationStep::Rotate(Err(BROKEN)),
+    StationStep::Flush(Err(BROKEN)),
+    StationStep::Claim(ONE, 0, Err(BROKEN)),
+    StationStep::Release(ONE, 1),
+    StationStep::Totals(4, 0, 0, 4),
+    StationStep::List(&[1, 2, 3, 4]),
 ];
 
-const KEEPS_FOUR: &[Step] = &[Step::ListBetween(&[1, 2, 3], &[1, 2, 3, 4])];
+const KEEPS_FOUR: &[StationStep] = &[StationStep::ListBetween(&[1, 2, 3], &[1, 2, 3, 4])];
 
 // A rotation makes eight calls of the second disk, and keeps each debt's place: who holds it, and until when it waits.
-const ROTATING: &[Script] = &[
-    Script {
+const ROTATING: &[StationScript] = &[
+    StationScript {
         name: "what is held stays held",
         owed: 5,
         limits: UNLIMITED,
         steps: &[
-            Step::Claim(ONE, 0, Ok(1)),
-            Step::Claim(OTHER, 0, Ok(2)),
-            Step::Claim(ONE, 0, Ok(3)),
-            Step::WantedLater(3),
-            Step::Defer(ONE, 3, 0, Ok(())),
-            Step::Rotate(Ok(1)),
-            Step::Totals(5, 0, 0, 5),
-            Step::Mark(5),
-            Step::List(&[1, 2, 3, 4, 5]),
-            Step::Claim(ONE, 59, Ok(4)),
-            Step::NotWanted(1),
-            Step::Settle(OTHER, 1, Err(NOT_HELD)),
-            Step::Settle(ONE, 1, Ok(())),
-            Step::Lose(ONE, 2, Err(NOT_HELD)),
-            Step::Lose(OTHER, 2, Ok(())),
-            Step::Claim(ONE, 60, Ok(3)),
-            Step::Rotate(Ok(2)),
-            Step::Claim(ONE, 60, Ok(5)),
-            Step::Claim(ONE, 60, Ok(0)),
-            Step::Totals(5, 1, 1, 3),
-            Step::List(&[3, 4, 5]),
-            Step::Release(ONE, 3),
-            Step::Claim(OTHER, 60, Ok(3)),
+            StationStep::Claim(ONE, 0, Ok(1)),
+            StationStep::Claim(OTHER, 0, Ok(2)),
+            StationStep::Claim(ONE, 0, Ok(3)),
+            StationStep::WantedLater(3),
+            StationStep::Defer(ONE, 3, 0, Ok(())),
+            StationStep::Rotate(Ok(1)),
+            StationStep::Totals(5, 0, 0, 5),
+            StationStep::Mark(5),
+            StationStep::List(&[1, 2, 3, 4, 5]),
+            StationStep::Claim(ONE, 59, Ok(4)),
+            StationStep::NotWanted(1),
+            StationStep::Settle(OTHER, 1, Err(NOT_HELD)),
+            StationStep::Settle(ONE, 1, Ok(())),
+            StationStep::Lose(ONE, 2, Err(NOT_HELD)),
+            StationStep::Lose(OTHER, 2, Ok(())),
+            StationStep::Claim(ONE, 60, Ok(3)),
+            StationStep::Rotate(Ok(2)),
+            StationStep::Claim(ONE, 60, Ok(5)),
+            StationStep::Claim(ONE, 60, Ok(0)),
+            StationStep::Totals(5, 1, 1, 3),
+            StationStep::List(&[3, 4, 5]),
+            StationStep::Release(ONE, 3),
+            StationStep::Claim(OTHER, 60, Ok(3)),
         ],
         opened: &[(
             Reopening::Again(UNLIMITED),
             &[
-                Step::Totals(5, 1, 1, 3),
-                Step::Mark(5),
-                Step::Release(OTHER, 0),
-                Step::Claim(ONE, 0, Ok(3)),
-                Step::Claim(ONE, 0, Ok(4)),
-                Step::Claim(ONE, 0, Ok(5)),
-                Step::Claim(ONE, u64::MAX, Ok(0)),
-                Step::Rotate(Ok(3)),
+                StationStep::Totals(5, 1, 1, 3),
+                StationStep::Mark(5),
+                StationStep::Release(OTHER, 0),
+                StationStep::Claim(ONE, 0, Ok(3)),
+                StationStep::Claim(ONE, 0, Ok(4)),
+                StationStep::Claim(ONE, 0, Ok(5)),
+                StationStep::Claim(ONE, u64::MAX, Ok(0)),
+                StationStep::Rotate(Ok(3)),
             ],
         )],
         tape: None,
     },
-    Script {
+    StationScript {
         name: "what pends is acknowledged",
         owed: 2,
         limits: UNLIMITED,
         steps: &[
-            Step::RotateDue(false),
-            Step::Rotate(Ok(1)),
-            Step::RotateDue(false),
-            Step::Flush(Ok(2)),
-            Step::Owe(3, Ok(Owed::New)),
+            StationStep::RotateDue(false),
+            StationStep::Rotate(Ok(1)),
+            StationStep::RotateDue(false),
+            StationStep::Flush(Ok(2)),
+            StationStep::Owe(3, Ok(Owed::New)),
         ],
         opened: &[],
         tape: Some((&[0], &ROTATED)),
     },
-    Script {
+    StationScript {
         name: "a rotation that fails after no call",
         owed: 3,
         limits: UNLIMITED,
-        steps: &[Step::Flush(Ok(3))],
+        steps: &[StationStep::Flush(Ok(3))],
         opened: &[
             (Reopening::OtherFused(UNLIMITED, 0), FAILS_TO_ROTATE),
             (Reopening::Again(UNLIMITED), KEEPS_FOUR),
         ],
         tape: None,
     },
-    Script {
+    StationScript {
         name: "a rotation that fails at its last call",
         owed: 3,
         limits: UNLIMITED,
-        steps: &[Step::Flush(Ok(3))],
+        steps: &[StationStep::Flush(Ok(3))],
         opened: &[
             (Reopening::OtherFused(UNLIMITED, 7), FAILS_TO_ROTATE),
             (Reopening::Again(UNLIMITED), KEEPS_FOUR),
         ],
         tape: None,
     },
-    Script {
+    StationScript {
         name: "a rotation that makes its calls",
         owed: 3,
         limits: UNLIMITED,
-        steps: &[Step::Flush(Ok(3))],
+        steps: &[StationStep::Flush(Ok(3))],
         opened: &[
             (
                 Reopening::OtherFused(UNLIMITED, 8),
                 &[
-                    Step::Owe(4, Ok(Owed::New)),
-                    Step::Rotate(Ok(1)),
-                    Step::Owe(5, Ok(Owed::New)),
-                    Step::Flush(Err(DISK)),
+                    StationStep::Owe(4, Ok(Owed::New)),
+                    StationStep::Rotate(Ok(1)),
+                    StationStep::Owe(5, Ok(Owed::New)),
+                    StationStep::Flush(Err(DISK)),
                 ],
             ),
             (
                 Reopening::Again(UNLIMITED),
-                &[Step::ListBetween(&[1, 2, 3, 4], &[1, 2, 3, 4, 5])],
+                &[StationStep::ListBetween(&[1, 2, 3, 4], &[1, 2, 3, 4, 5])],
             ),
         ],
         tape: None,

@@ -19,10 +19,10 @@ const FRONTS: [&[u64]; 5] = [&[], &[1], &[1, 2], &[2], &[2, 3]];
 type Flaky = Station<FlakyDisk<MemDisk>>;
 
 // How many notes are acknowledged, and how many were made.
-type Counts = (u64, u64);
+type NoteCounts = (u64, u64);
 
 // How many calls of the first disk, and how many of the second, come before the one that fails.
-type Calls = (u64, u64);
+type CallsBefore = (u64, u64);
 
 fn opened<D: Disk + Drop>(
     alloc: Global,
@@ -149,7 +149,7 @@ fn rotated<A: Abort>(rt: &A, station: &mut Flaky, acknowledged: u64) -> Result<u
 }
 
 // Owes two debts and flushes them, ends one and flushes that, and owes a third and rotates.
-fn work<A: Abort>(rt: &A, alloc: Global, station: &mut Flaky) -> Result<Counts, Fail> {
+fn work<A: Abort>(rt: &A, alloc: Global, station: &mut Flaky) -> Result<NoteCounts, Fail> {
     owe(alloc, station, 1)?;
     owe(alloc, station, 2)?;
     let acknowledged = flushed(rt, station, 0)?;
@@ -178,7 +178,7 @@ fn assert_front<A: Abort>(
     rt: &A,
     alloc: Global,
     disks: (MemDisk, MemDisk),
-    (least, most): Counts,
+    (least, most): NoteCounts,
 ) -> Result<(), Fail> {
     let listed = listed(alloc, disks)?;
     let is_front = FRONTS.iter().enumerate().any(|(notes, owed)| least <= notes as u64
@@ -189,7 +189,11 @@ fn assert_front<A: Abort>(
 }
 
 // Whether the call that fails, after this many, comes.
-fn meets_fault<A: Abort>(rt: &A, alloc: Global, (first, second): Calls) -> Result<bool, Fail> {
+fn meets_fault<A: Abort>(
+    rt: &A,
+    alloc: Global,
+    (first, second): CallsBefore,
+) -> Result<bool, Fail> {
     let a = FlakyDisk::new(MemDisk::new(alloc), first);
     let b = FlakyDisk::new(MemDisk::new(alloc), second);
     let mut station = opened_at_last(rt, alloc, (a, b))?;
