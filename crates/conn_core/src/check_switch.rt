@@ -55,7 +55,8 @@ impl CheckSwitch {
     pub(crate) fn count(&mut self, options: &Options, accepts: bool)
         requires { self.old.filter ≡ options.now.check_filter }
         ensures filter { self.new.filter ≡ self.old.filter }
-        ensures recent { self.new.recent ≡ take options.now.check_filter (accepts ∷ self.old.recent) }
+        ensures recent { self.new.recent
+            ≡ take options.now.check_filter (accepts ∷ self.old.recent) }
         ensures off { self.new.off
             ≡ are_off_with options.now self.old.off
             (take options.now.check_filter (accepts ∷ self.old.recent)) }
@@ -81,8 +82,10 @@ fn is_off(full: bool, high: bool, kept: bool, off: bool) -> bool
 // The count with one more answer and without the one that it pushes out. `few` keeps the sum from overflowing.
 fn accepted_after(accepted: u64, accepts: bool, gone: Option<bool>) -> u64
     requires few { accepted < 2 ^ 63 }
-    requires among { accepted_among (option_to_list gone) ≤ accepted_among (accepts ∷ []) + accepted }
-    ensures { result + accepted_among (option_to_list gone) ≡ accepted_among (accepts ∷ []) + accepted }
+    requires among { accepted_among (option_to_list gone)
+        ≤ accepted_among (accepts ∷ []) + accepted }
+    ensures { result + accepted_among (option_to_list gone)
+        ≡ accepted_among (accepts ∷ []) + accepted }
 {
     let more = if accepts { accepted + 1 } else { accepted };
     match gone {
