@@ -17,6 +17,7 @@ use Rattle.peer_queue.specs.declared.settled.Settled.TheVariants.{Answered, Drop
 use Rattle.recovery.specs.Notes.{begun as begun_history}
 use Rattle.world_core.specs.Past.{ConnPast, Life, Past, TapePast}
 use Rattle.world_core.specs.Events.{Settles}
+use Rattle.world_core.specs.Events.AllDo.{Start as NoEvent}
 use Rattle.world_core.specs.Exchange.{TakesConnect, exchange_views, followed_up, fresh_conn, settled_out, unsettled}
 use Rattle.world_core.specs.Exchange.{waiting, with_transcript}
 use Rattle.world_core.specs.ExchangeLaws.{settle_events}
@@ -25,7 +26,7 @@ use Rattle.world_core.specs.Runs.{RefusesStep, Runs}
 use Rattle.world_core.specs.Runs.Runs.{Next, Start}
 use Rattle.world_core.specs.Safe.{IsSafe}
 use Rattle.world_core.specs.Sound.{IsSoundLife}
-use Rattle.world_core.specs.Steps.{begun_at}
+use Rattle.world_core.specs.Steps.{TakesPlan, begun_at, planned}
 use Rattle.world_core.specs.Output.{Closed, Connected, Need, SentLine, View, Settled}
 use Rattle.world_core.specs.declared.fault.Fault.TheVariants.{NoConnection, NoPeer}
 use Rattle.world_core.specs.declared.step.Step.TheVariants.{Begin, Connect, Hand, Stop}
@@ -211,11 +212,21 @@ module _ (conf : PeerConf) (choice : Choice) where
   abbrev armed : Life
   armed = armed_with (record { rank = Some 0; call = 3; choice = choice }) kept
 
+  begin_takes : TakesPlan Begin past [] (begun_at past)
+  begin_takes = record {
+    plan = planned (begun_at past) [] (λ (later : Past). []);
+    is_plan = refl;
+    mid = begun_at past;
+    does = NoEvent;
+    outputs_are = refl;
+    later_is = refl;
+  }
+
   run_takes : IsSafe past → IsSoundLife life → IsSafe kept.past → IsSoundLife kept → IsSoundLife armed
       → Runs life (Begin ∷ Stop (Some (codes "p")) 3 choice ∷ []) ([] ∷ [] ∷ []) armed
   run_takes safe sound kept_safe kept_sound armed_sound =
       Next (Begin ∷ []) (Stop (Some (codes "p")) 3 choice) ([] ∷ []) [] kept armed
-      (Next [] Begin [] [] life kept (Start safe sound) (inl (refl, (begun_at past, (refl, refl), refl)))
+      (Next [] Begin [] [] life kept (Start safe sound) (inl (refl, (begun_at past, begin_takes, refl)))
       kept_safe kept_sound)
       (inl (Some 0, refl, refl, refl)) kept_safe armed_sound
 

@@ -1,42 +1,41 @@
 -- A step calls disks only at its events: whatever has happened to them when it ends had happened before it, or by the
 -- end of one of its events.
-use Rattle.std.proofs.Common.{◌≡◌, ◌⊎◌, ◌+◌, ◌++◌, ℕ, zero, suc, Bool, true, false, Option, Some, List, [], ◌∷◌, length}
-use Rattle.std.proofs.Common.{take, map, refl, sym, ap, ◌∙◌, subst, inl, inr}
-use Rattle.std.specs.Prelude.{if◌then◌else◌}
-use Rattle.std.specs.Global.{Vec}
-use Rattle.std.specs.List.{AllByRecursion, slice_get}
+use Rattle.std.proofs.Common.{◌≡◌, ◌⊎◌, ◌+◌, ◌++◌, ℕ, zero, suc, false, Option, None, Some, List, [], ◌∷◌}
+use Rattle.std.proofs.Common.{length, take, map, refl, sym, ap, ◌∙◌, subst, inl, inr}
+use Rattle.std.specs.List.{slice_get}
 use Rattle.std.proofs.Math.Seq.{take-length}
 use Rattle.disk_model.specs.declared.choice.Choice.{Choice}
 use Rattle.recovery.specs.Image.{Log}
+use Rattle.peer_queue.specs.Settled.{key_in}
 use Rattle.peer_queue.specs.declared.limits.Owed.{Owed}
 use Rattle.peer_queue.specs.declared.limits.Owed.TheVariants.{New, Already}
-use Rattle.world_core.specs.Past.{Armed, Life, Past, PeerPast, rank_of, with_past, with_peer, with_tape}
-use Rattle.world_core.specs.Events.{AllDo, Does, Event, Fails, Owes, Refuses, Sheds, owed_as, owing_as, shed_peer}
+use Rattle.peer_queue.specs.declared.settled.Settled.{Settled}
+use Rattle.peer_queue.specs.declared.settled.Settled.TheVariants.{Answered, Dropped, Later, Ready}
+use Rattle.world_core.specs.Past.{Armed, Life, Past, PeerPast, with_peer, with_tape}
+use Rattle.world_core.specs.Events.{AllDo, Claims, Closes, Does, Event, Imports, Owes, Refuses, Returns, Sees, Settles}
+use Rattle.world_core.specs.Events.{Sheds, calls_disk, import_key, imported_as, owed_as, owing_as, settled_as, settling}
+use Rattle.world_core.specs.Events.{shed_peer}
 use Rattle.world_core.specs.Events.AllDo.{Start, Next}
 use Rattle.world_core.specs.Exchange.{FailsToBreak, FailsToHand, FailsToRead, FailsToSupply, FailsToTick, OnPair}
 use Rattle.world_core.specs.Exchange.{PairStep, RefusesOn, TakesArticle, TakesBreak, TakesBytes, TakesHand, TakesMoment}
 use Rattle.world_core.specs.Exchange.{TicksEach, at_moment}
 use Rattle.world_core.specs.Exchange.TicksEach.{Start as NoneTicked, Next as OneTicked}
-use Rattle.world_core.specs.Halts.{AtRest, ByChoice, CallsDisks, FailsToOpen, Manner, Meets, RefusesRestart}
-use Rattle.world_core.specs.Halts.{RefusesStop, TakesStop, halted, left, left_peer, restart_events}
-use Rattle.world_core.specs.Moments.{CallsNoOther, Ended, HadLog, HasLog, IsUnderWay, MayMake, WasLeft}
-use Rattle.world_core.specs.Runs.{Does as DoesStep, Refuses as RefusesAny, RefusesTapes, RefusesWorld, Takes}
-use Rattle.world_core.specs.Steps.{Good, NotGood, Reading, RefusesFlushing, RefusesImport, RefusesLine, RefusesNamed}
-use Rattle.world_core.specs.Steps.{RefusesPart, RefusesRotation, RefusesSeal, RefusesShed, RefusesTelling, TakesReading}
-use Rattle.world_core.specs.Steps.{begun_at, flush_events, is_named, owes_from}
+use Rattle.world_core.specs.Halts.{AtRest, ByChoice, GoesOn, Manner, RefusesStop, TakesStop, halted, left, left_peer}
+use Rattle.world_core.specs.Moments.{CallsNoOther, Ended, HadLog, HasLog, IsUnderWay, WasLeft}
+use Rattle.world_core.specs.Runs.{Does as DoesStep, Meets, Refuses as RefusesAny, RefusesTapes, RefusesWorld, Takes}
+use Rattle.world_core.specs.Steps.{FailsPlan, IsPlan, Plan, RefusesPlan, TakesPlan, must_run}
 use Rattle.world_core.specs.Output.{View}
 use Rattle.recovery.specs.declared.fault.TapeFault.TheVariants.{Disk}
 use Rattle.world_core.specs.declared.fault.Fault.{Fault}
 use Rattle.world_core.specs.declared.fault.Fault.TheVariants.{Tape}
 use Rattle.world_core.specs.declared.step.Step.{Step}
-use Rattle.world_core.specs.declared.step.Step.TheVariants.{Line, Flush, Begin, Part, Seal, Connect, Hand, Bytes}
-use Rattle.world_core.specs.declared.step.Step.TheVariants.{Article, Break, Tick, Shed, Import, Rotate, Stop, Restart}
-use Rattle.world_core.proofs.AcknowledgedLines.{all_at}
+use Rattle.world_core.specs.declared.step.Step.TheVariants.{Article, Break, Bytes, Connect, Hand, Stop, Tick}
 use Rattle.world_core.proofs.PairGoesOn.{Goes, keeps_pair, went_article, went_break, went_bytes, went_hand}
 use Rattle.world_core.proofs.PairGoesOn.{went_moment, went_unbroken, went_unhanded, went_unread, went_unsupplied}
 use Rattle.world_core.proofs.PairGoesOn.{went_unticked}
-use Rattle.world_core.proofs.Moments.{log_of, not_none, starts}
-use Rattle.world_core.proofs.MarksAndNotes.{first_all, prefix_all, last_all, map_set}
+use Rattle.world_core.proofs.Moments.{log_of, not_none}
+use Rattle.world_core.proofs.MarksAndNotes.{map_set}
+use Rattle.world_core.proofs.WalkOverTapes.{frame}
 
 -- ---- lists
 
@@ -77,54 +76,62 @@ quiet_put was now rank peer new here changed same =
 
 -- an event that calls no disk
 abbrev IsQuiet : Event → Type 0
-IsQuiet (Owes rank token id) = Unit {0}
-IsQuiet (Sheds rank numbers) = Unit {0}
-IsQuiet event = ⊥
+IsQuiet event = calls_disk event ≡ None
 
 owing_log : (owed : Owed) (number : ℕ) (token id : List ℕ) (peer : PeerPast)
     → (owing_as owed number token id peer).tape.log ≡ peer.tape.log
 owing_log New number token id peer = refl
 owing_log Already number token id peer = refl
 
+settled_log : (settled : Settled) (number : ℕ) (peer : PeerPast)
+    → (settled_as settled number peer).tape.log ≡ peer.tape.log
+settled_log (Answered code) number peer = refl
+settled_log (Dropped cause) number peer = refl
+settled_log (Later moment) number peer = refl
+settled_log Ready number peer = refl
+
 quiet_taken : (event : Event) (was now : Past) → IsQuiet event → Does event was now → logs now ≡ logs was
 quiet_taken (Owes rank token id) was now quiet d =
     quiet_put was now rank d.peer _ d.here d.changed
     (owing_log (owed_as (was.last + 1) d.peer) (was.last + 1) token id d.peer)
+quiet_taken (Imports rank number token id) was now quiet d =
+    quiet_put was now rank d.peer _ d.here d.changed
+    (owing_log (imported_as number d.peer) (import_key number d.peer) token id d.peer)
+quiet_taken (Closes rank) was now quiet d = quiet_put was now rank d.peer _ d.here d.changed refl
 quiet_taken (Sheds rank numbers) was now quiet d =
     quiet_put was now rank d.peer (shed_peer numbers d.peer) d.here d.changed refl
-quiet_taken event was now quiet d = absurd quiet
+quiet_taken (Claims rank id moment) was now quiet d =
+    quiet_put was now rank d.peer _ d.here d.changed (log_of _ _ d.reads.all)
+quiet_taken (Returns rank id number) was now quiet d = quiet_put was now rank d.peer _ d.here d.changed refl
+quiet_taken (Settles rank id moment outcome) was now quiet d =
+    quiet_put was now rank d.peer _ d.here d.changed
+    (settled_log (settling d.peer moment outcome) (key_in outcome) d.peer)
+quiet_taken (Sees number) was now quiet d = ap logs d.changed
+quiet_taken event was now quiet d = absurd cc
 
 quiet_refused : (event : Event) (was now : Past) (fault : Fault) → IsQuiet event → Refuses event was fault now
     → logs now ≡ logs was
 quiet_refused (Owes rank token id) was now fault quiet r =
     quiet_put was now rank r.peer (with_tape r.peer r.tape) r.here r.changed (log_of _ _ r.refused.2)
+quiet_refused (Imports rank number token id) was now fault quiet r =
+    quiet_put was now rank r.peer (with_tape r.peer r.tape) r.here r.changed (log_of _ _ r.refused.2)
+quiet_refused (Closes rank) was now fault quiet r =
+    quiet_put was now rank r.peer (with_tape r.peer r.tape) r.here r.changed (log_of _ _ r.refused.1)
 quiet_refused (Sheds rank numbers) was now fault quiet r =
     quiet_put was now rank r.peer (with_tape r.peer r.tape) r.here r.changed (log_of _ _ r.refused.1)
-quiet_refused event was now fault quiet r = absurd quiet
+quiet_refused (Claims rank id moment) was now fault quiet r =
+    quiet_put was now rank r.peer (with_tape r.peer r.tape) r.here r.changed (log_of _ _ r.refused.1.all)
+quiet_refused (Returns rank id number) was now fault quiet r =
+    quiet_put was now rank r.peer (with_tape r.peer r.tape) r.here r.changed (log_of _ _ r.refused.1)
+quiet_refused (Settles rank id moment outcome) was now fault quiet r =
+    quiet_put was now rank r.peer (with_tape r.peer r.tape) r.here r.changed (log_of _ _ r.refused.1)
+quiet_refused (Sees number) was now fault quiet r = ap logs r.changed
+quiet_refused event was now fault quiet r = absurd cc
 
-all_quiet : (was now : Past) (events : List Event) → AllDo was events now → AllByRecursion IsQuiet events
-    → logs now ≡ logs was
-all_quiet was _ _ Start quiet = refl
-all_quiet was _ _ (Next events event past now does one safe) quiet =
-    quiet_taken event past now (last_all IsQuiet events event quiet) one
-    ∙ all_quiet was past events does (prefix_all IsQuiet events (event ∷ []) quiet)
-
-fails_quiet : (was now : Past) (events : List Event) (fault : Fault) → AllByRecursion IsQuiet events
-    → Fails was events fault now → logs now ≡ logs was
-fails_quiet was now events fault quiet f =
-    quiet_refused f.event f.mid now fault (all_at IsQuiet events f.count f.event quiet f.here) f.refused
-    ∙ all_quiet was f.mid _ f.prefix (first_all IsQuiet f.count events quiet)
-
-owes_quiet : (rank : ℕ) (token id : List ℕ) (named : List (List ℕ)) (peers : List PeerPast)
-    → AllByRecursion IsQuiet (owes_from rank token id named peers)
-owes_quiet rank token id named [] = tt
-owes_quiet rank token id named (peer ∷ peers) = by (is_named named peer) (owes_quiet (rank + 1) token id named peers)
-  where
-    by : (b : Bool) → AllByRecursion IsQuiet (owes_from (rank + 1) token id named peers)
-        → AllByRecursion IsQuiet (if b then Owes rank token id ∷ owes_from (rank + 1) token id named peers
-        else owes_from (rank + 1) token id named peers)
-    by true more = (tt, more)
-    by false more = more
+quiet_event : (event : Event) (was now : Past) → IsQuiet event
+    → Does event was now ⊎ ((fault : Fault) × Refuses event was fault now) → logs now ≡ logs was
+quiet_event event was now quiet (inl does) = quiet_taken event was now quiet does
+quiet_event event was now quiet (inr (fault, refuses)) = quiet_refused event was now fault quiet refuses
 
 -- ---- a step on a connection
 
@@ -151,12 +158,6 @@ begun_quiet : (peers : List PeerPast)
 begun_quiet [] = refl
 begun_quiet (peer ∷ peers) = ap (λ l. peer.tape.log ∷ l) (begun_quiet peers)
 
-reading_quiet : (reading : Reading) (past later : Past) (outputs : List View) → TakesReading reading past outputs later
-    → logs later ≡ logs past
-reading_quiet (Good token id named) past later outputs (said, (mid, does, changed)) =
-    ap logs changed ∙ all_quiet past mid _ does (owes_quiet 0 token id named past.peers)
-reading_quiet (NotGood fault) past later outputs (said, changed) = ap logs changed
-
 -- ---- a step
 
 module _ (step : Step) (life : Life) where
@@ -167,9 +168,6 @@ module _ (step : Step) (life : Life) where
   at_first : AtEvents life.past
   at_first = λ rank log has. inl has
 
-  at_end : (was now : Past) → IsUnderWay step life was now → AtEvents now
-  at_end was now way = λ rank log has. inr (was, now, way, has)
-
   at_same : (was now : Past) → logs now ≡ logs was → AtEvents was → AtEvents now
   at_same was now same at = λ rank log has.
       let there = subst (λ (ls : List Log). slice_get ls rank ≡ Some has.0.tape.log) same
@@ -177,43 +175,67 @@ module _ (step : Step) (life : Life) where
       let old = get_map (λ (p : PeerPast). p.tape.log) was.peers rank has.0.tape.log there in
       at rank log (old.0, old.1, has.2 ∙ old.2)
 
-  module _ (begun : Past) (events : List Event) (may : MayMake step life begun events) where
-    at_begun : AtEvents begun
-    at_begun = elim (starts step life begun events may) [
-      | inl same ↦ at_same life.past begun (ap logs same) at_first
-      | inr same ↦ at_same life.past begun (ap logs same ∙ begun_quiet life.past.peers) at_first
+  -- the end of an event, taken or refused, if so much had happened by the end of those before it
+  at_end : (was now : Past) (way : IsUnderWay step life was now) → AtEvents was → AtEvents now
+  at_end was now way before = by (calls_disk way.event) refl
+    where
+      by : (called : Option (Option ℕ)) → calls_disk way.event ≡ called → AtEvents now
+      by None quiet = at_same was now (quiet_event way.event was now quiet way.makes) before
+      by (Some tape) calls = λ rank log has.
+          inr (record { was = was; now = now; under_way = way; tape = tape; calls = calls; had = has })
+
+  module _ (running : life.running ≡ must_run step) (plan : Plan) (is : IsPlan step life.past plan) where
+    at_begun : AtEvents plan.begun
+    at_begun = elim (frame step life.past plan is).begins [
+      | inl same ↦ at_same life.past plan.begun (ap logs same) at_first
+      | inr same ↦ at_same life.past plan.begun (ap logs same ∙ begun_quiet life.past.peers) at_first
     ]
 
-    at_done : (n : ℕ) (some : List Event) (later : Past) → AllDo begun some later → some ≡ take n events
+    at_done : (n : ℕ) (some : List Event) (later : Past) → AllDo plan.begun some later → some ≡ take n plan.events
         → AtEvents later
-    at_done n _ _ Start is = at_begun
-    at_done n _ _ (Next some event past later does one safe) is =
-        let last = last_of some event n events is in
+    at_done n _ _ Start none = at_begun
+    at_done n _ _ (Next some event past later does one safe) first =
+        let last = last_of some event n plan.events first in
         at_end past later (record {
-          begun = begun;
-          events = events;
-          may = may;
+          running = running;
+          plan = plan;
+          is_plan = is;
           count = length some;
-          prefix = subst (λ (es : List Event). AllDo begun es past) (sym last.0) does;
+          prefix = subst (λ (es : List Event). AllDo plan.begun es past) (sym last.0) does;
           event = event;
           here = last.1;
           makes = inl one;
-        })
+        }) (at_done (length some) some past does (sym last.0))
 
-    at_fault : (fault : Fault) (later : Past) → Fails begun events fault later → AtEvents later
-    at_fault fault later f = at_end f.mid later (record {
-      begun = begun;
-      events = events;
-      may = may;
-      count = f.count;
-      prefix = f.prefix;
-      event = f.event;
-      here = f.here;
-      makes = inr (fault, f.refused);
-    })
+    at_all : (later : Past) → AllDo plan.begun plan.events later → AtEvents later
+    at_all later does = at_done (length plan.events) plan.events later does (sym (take-length plan.events))
 
-    at_all : (later : Past) → AllDo begun events later → AtEvents later
-    at_all later does = at_done (length events) events later does (sym (take-length events))
+  module _ (running : life.running ≡ must_run step) where
+    at_fault : (fault : Fault) (later : Past) → FailsPlan step life.past fault later → AtEvents later
+    at_fault fault later failed =
+        let f = failed.fails in
+        at_end f.mid later (record {
+          running = running;
+          plan = failed.plan;
+          is_plan = failed.is_plan;
+          count = f.count;
+          prefix = f.prefix;
+          event = f.event;
+          here = f.here;
+          makes = inr (fault, f.refused);
+        }) (at_done running failed.plan failed.is_plan f.count _ f.mid f.prefix refl)
+
+    at_taken : (outputs : List View) (later : Past) → TakesPlan step life.past outputs later → AtEvents later
+    at_taken outputs later t =
+        at_same t.mid later (ap logs t.later_is
+        ∙ ap (map (λ (peer : PeerPast). peer.tape.log)) ((frame step life.past t.plan t.is_plan).ends t.mid))
+        (at_all running t.plan t.is_plan t.mid t.does)
+
+    at_refused : (fault : Fault) (later : Past) → RefusesPlan step life.past fault later → AtEvents later
+    at_refused fault later (inl barred) = at_same life.past later (ap logs barred.1) at_first
+    at_refused fault later (inr (inl failed)) = at_fault fault later failed
+    at_refused fault later (inr (inr lacks)) =
+        at_done running lacks.plan lacks.is_plan lacks.count _ later lacks.does refl
 
   -- ---- a stop
 
@@ -234,9 +256,8 @@ module _ (step : Step) (life : Life) where
         left_is = has.2 ∙ ap (λ (p : PeerPast). p.tape.log) old.2;
       })
 
-  moved : (past : Past) (later : Life) → later ≡ with_past life past → AtEvents past → AtEnd later.past
-  moved past later changed at =
-      subst (λ (l : Life). AtEnd l.past) (sym changed) (λ rank log has. inl (at rank log has))
+  moved : (past : Past) (later : Life) → later.past ≡ past → AtEvents past → AtEnd later.past
+  moved past later changed at = subst AtEnd (sym changed) (λ rank log has. inl (at rank log has))
 
   quiet : (later : Life) → logs later.past ≡ logs life.past → AtEnd later.past
   quiet later same = λ rank log has. inl (at_same life.past later.past same at_first rank log has)
@@ -249,24 +270,9 @@ module _ (step : Step) (life : Life) where
   stopped manner under_way later changed at =
       subst (λ (l : Life). AtEnd l.past) (sym changed) (at_left manner under_way at)
 
--- the events of a step in which an armed stop is met are events that the step may make
-may_of : (step : Step) (life : Life) (begun : Past) (events : List Event) → CallsDisks step life begun events
-    → MayMake step life begun events
-may_of (Rotate name) life begun events (runs, is, (rank, here, its)) = (runs, is, (rank, 0, here, its))
-may_of step life begun events calls = calls
-
 met : (step : Step) (life : Life) (stop : Armed) (under_way : Past) → Meets step life stop under_way
     → AtEvents step life under_way
-met step life stop under_way m = at_end step life m.mid under_way (record {
-  begun = m.begun;
-  events = m.events;
-  may = may_of step life m.begun m.events m.calls;
-  count = m.count;
-  prefix = m.prefix;
-  event = m.event;
-  here = m.here;
-  makes = inr (Tape Disk, m.met);
-})
+met step life stop under_way m = at_fault step life m.running (Tape Disk) under_way m.failed
 
 -- ---- a step that is taken
 
@@ -279,18 +285,6 @@ stop_at peer (suc calls) choice step life outputs later (rank, is, said, changed
 
 does_at : (step : Step) (life : Life) (outputs : List View) (later : Life) → DoesStep step life outputs later
     → AtEnd step life later.past
-does_at (Line text) life outputs later (runs, (past, t, changed)) =
-    quiet (Line text) life later (past_of later _ changed ∙ reading_quiet t.reading life.past past outputs t.takes)
-does_at Flush life outputs later (runs, (past, (does, said), changed)) =
-    moved Flush life past later changed
-    (at_all Flush life (begun_at life.past) (flush_events life.past) (runs, refl, refl) past does)
-does_at Begin life outputs later (runs, (past, (said, is), changed)) =
-    quiet Begin life later (past_of later _ changed ∙ ap logs is ∙ begun_quiet life.past.peers)
-does_at (Part name) life outputs later (runs, (past, (rank, here, does, said), changed)) =
-    moved (Part name) life past later changed
-    (at_all (Part name) life life.past _ (runs, refl, (rank, here, refl)) past does)
-does_at Seal life outputs later (runs, (past, (number, may, does, said), changed)) =
-    moved Seal life past later changed (at_all Seal life life.past _ (runs, refl, (number, may, refl)) past does)
 does_at (Connect name) life outputs later (runs, t) = quiet (Connect name) life later (past_of later _ t.changed)
 does_at (Hand id) life outputs later (runs, t) =
     quiet (Hand id) life later (on_quiet TakesHand id (went_hand id) life outputs later t)
@@ -304,20 +298,10 @@ does_at (Break id) life outputs later (runs, t) =
     quiet (Break id) life later (on_quiet TakesBreak id (went_break (Hand id) id) life outputs later t)
 does_at (Tick now) life outputs later (runs, t) =
     quiet (Tick now) life later (ticked_quiet (at_moment now life) _ outputs later t)
-does_at (Shed name) life outputs later (runs, (past, (rank, numbers, here, does, said), changed)) =
-    quiet (Shed name) life later (past_of later _ changed ∙ all_quiet life.past past _ does (tt, tt))
-does_at (Rotate name) life outputs later (runs, (past, (rank, generation, here, does, said), changed)) =
-    moved (Rotate name) life past later changed
-    (at_all (Rotate name) life life.past _ (runs, refl, (rank, generation, here, refl)) past does)
-does_at (Import name text) life outputs later (runs, (past, (events, is, does, said), changed)) =
-    moved (Import name text) life past later changed
-    (at_all (Import name text) life life.past events (runs, refl, is) past does)
 does_at (Stop peer call choice) life outputs later takes =
     stop_at peer call choice (Stop peer call choice) life outputs later takes
-does_at Restart life outputs later t =
-    subst (λ (l : Life). AtEnd Restart life l.past) (sym t.changed)
-    (λ rank log has. inl (at_all Restart life life.past (restart_events life.past) (t.stopped, refl, refl) t.past
-    t.opens rank log has))
+does_at step life outputs later (runs, (past, takes, changed)) =
+    moved step life past later (ap (λ (l : Life). l.past) changed) (at_taken step life runs outputs past takes)
 
 takes_at : (step : Step) (life : Life) (outputs : List View) (later : Life) → Takes step life outputs later
     → AtEnd step life later.past
@@ -327,12 +311,18 @@ takes_at step life outputs later (inr s) =
 
 -- ---- a step that is refused
 
-tapes_at : (step : Step) (R : Past → Fault → Past → Type 0) (life : Life) (fault : Fault) (later : Life)
-    → ((runs : life.running ≡ true) (past : Past) → R life.past fault past → AtEvents step life past)
-    → RefusesTapes R life fault later → AtEnd step life later.past
-tapes_at step R life fault later each (inl off) = still step life later off.2
-tapes_at step R life fault later each (inr (runs, (past, refuses, changed))) =
-    moved step life past later changed (each runs past refuses)
+goes_at : (step : Step) (life : Life) (under_way : Past) (later : Life) → AtEvents step life under_way
+    → GoesOn life under_way later → AtEnd step life later.past
+goes_at step life under_way later at (inl (runs, changed)) =
+    moved step life under_way later (ap (λ (l : Life). l.past) changed) at
+goes_at step life under_way later at (inr (stopped, changed)) =
+    subst (λ (l : Life). AtEnd step life l.past) (sym changed) (at_left step life AtRest under_way at)
+
+tapes_at : (step : Step) (life : Life) (fault : Fault) (later : Life) → RefusesTapes step life fault later
+    → AtEnd step life later.past
+tapes_at step life fault later (inl off) = still step life later off.2
+tapes_at step life fault later (inr (runs, (under_way, refuses, goes))) =
+    goes_at step life under_way later (at_refused step life runs fault under_way refuses) goes
 
 conn_at : (step : Step) (id : ℕ) (R : PairStep Fault) → Goes (Hand id) id R → (life : Life) (fault : Fault)
     (later : Life) → RefusesWorld (RefusesOn R id) life fault later → AtEnd step life later.past
@@ -341,76 +331,13 @@ conn_at step id R goes life fault later (inr (runs, inl none)) = still step life
 conn_at step id R goes life fault later (inr (runs, inr on)) =
     quiet step life later (on_quiet R id goes life fault later on)
 
-same_at : (step : Step) (life : Life) (past : Past) → past ≡ life.past → AtEvents step life past
-same_at step life past same = at_same step life life.past past (ap logs same) (at_first step life)
-
-line_at : (text : Vec ℕ) (life : Life) (past : Past) (fault : Fault) → RefusesLine text.items life.past fault past
-    → AtEvents (Line text) life past
-line_at text life past fault (inl full) = same_at (Line text) life past full.2
-line_at text life past fault (inr (inl memory)) = same_at (Line text) life past memory.2
-line_at text life past fault (inr (inr (fits, (token, id, named, reads, fails)))) =
-    at_same (Line text) life life.past past
-    (fails_quiet life.past past _ fault (owes_quiet 0 token id named life.past.peers) fails) (at_first (Line text) life)
-
--- one event, at a peer given by its name
-named_at : (step : Step) (life : Life) (name : List ℕ) (Why : ℕ → Type 0) (past : Past) (fault : Fault)
-    → ((rank : ℕ) → rank_of life.past name ≡ Some rank → Why rank → AtEvents step life past)
-    → RefusesNamed name life.past Why fault past → AtEvents step life past
-named_at step life name Why past fault each (inl none) = same_at step life past none.2
-named_at step life name Why past fault each (inr (rank, here, why)) = each rank here why
-
-telling_at : (step : Step) (life : Life) (Why : Type 0) (past : Past) (fault : Fault)
-    → (Why → AtEvents step life past) → RefusesTelling Why life.past fault past → AtEvents step life past
-telling_at step life Why past fault each (inl memory) = same_at step life past memory.1
-telling_at step life Why past fault each (inr why) = each why
-
-shed_at : (name : _) (life : Life) (past : Past) (fault : Fault) (rank : ℕ)
-    → RefusesTelling (Fails life.past (Sheds rank [] ∷ []) fault past) life.past fault past
-    → AtEvents (Shed name) life past
-shed_at name life past fault rank why =
-    telling_at (Shed name) life _ past fault (λ fails. at_same (Shed name) life life.past past
-    (fails_quiet life.past past _ fault (tt, tt) fails) (at_first (Shed name) life)) why
-
-seal_at : (life : Life) (runs : life.running ≡ true) (past : Past) (fault : Fault) → RefusesSeal life.past fault past
-    → AtEvents Seal life past
-seal_at life runs past fault (inl none) = same_at Seal life past none.2
-seal_at life runs past fault (inr (number, may, why)) =
-    telling_at Seal life _ past fault
-    (at_fault Seal life life.past _ (runs, refl, (number, may, refl)) fault past) why
-
 refused_stop : (peer : Option (List ℕ)) (call : ℕ) (step : Step) (life : Life) (fault : Fault) (later : Life)
     → RefusesStop peer call life fault later → AtEnd step life later.past
 refused_stop peer zero step life fault later (why, same) = still step life later same
 refused_stop peer (suc calls) step life fault later (none, is, same) = still step life later same
 
-opens_at : (life : Life) (halts : life.running ≡ false) (past : Past) (fault : Fault) → FailsToOpen life.past fault past
-    → AtEvents Restart life past
-opens_at life halts past fault (inl fails) =
-    at_fault Restart life life.past (restart_events life.past) (halts, refl, refl) fault past fails
-opens_at life halts past fault (inr (memory, (count, does))) =
-    at_done Restart life life.past (restart_events life.past) (halts, refl, refl) count _ past does refl
-
-restart_at : (life : Life) (fault : Fault) (later : Life) → RefusesRestart life fault later
-    → AtEnd Restart life later.past
-restart_at life fault later (inl runs) = still Restart life later runs.2
-restart_at life fault later (inr (halts, (under_way, fails, changed))) =
-    subst (λ (l : Life). AtEnd Restart life l.past) (sym changed)
-    (at_left Restart life AtRest under_way (opens_at life halts under_way fault fails))
-
 refuses_at : (step : Step) (life : Life) (fault : Fault) (later : Life) → RefusesAny step life fault later
     → AtEnd step life later.past
-refuses_at (Line text) life fault later r =
-    tapes_at (Line text) (RefusesLine text.items) life fault later (λ runs past. line_at text life past fault) r
-refuses_at Flush life fault later r =
-    tapes_at Flush RefusesFlushing life fault later (λ runs past. telling_at Flush life _ past fault
-    (at_fault Flush life (begun_at life.past) (flush_events life.past) (runs, refl, refl) fault past)) r
-refuses_at Begin life fault later (inl off) = still Begin life later off.2
-refuses_at Begin life fault later (inr (runs, never)) = absurd never
-refuses_at (Part name) life fault later r =
-    tapes_at (Part name) (RefusesPart name) life fault later (λ runs past. named_at (Part name) life name _ past fault
-    (λ rank here. at_fault (Part name) life life.past _ (runs, refl, (rank, here, refl)) fault past)) r
-refuses_at Seal life fault later r =
-    tapes_at Seal RefusesSeal life fault later (λ runs past. seal_at life runs past fault) r
 refuses_at (Connect name) life fault later (inl off) = still (Connect name) life later off.2
 refuses_at (Connect name) life fault later (inr (runs, is)) = still (Connect name) life later is.1
 refuses_at (Hand id) life fault later r = conn_at (Hand id) id FailsToHand (went_unhanded id) life fault later r
@@ -425,21 +352,9 @@ refuses_at (Tick now) life fault later (inr (runs, r)) =
     quiet (Tick now) life later
     (on_quiet FailsToTick r.fails.0 (went_unticked (Hand r.fails.0) r.fails.0) r.mid fault later r.fails.2
     ∙ ticked_quiet (at_moment now life) r.count r.outputs r.mid r.prefix)
-refuses_at (Shed name) life fault later r =
-    tapes_at (Shed name) (RefusesShed name) life fault later (λ runs past. named_at (Shed name) life name _ past fault
-    (λ rank here. shed_at name life past fault rank)) r
-refuses_at (Rotate name) life fault later r =
-    tapes_at (Rotate name) (RefusesRotation name) life fault later
-    (λ runs past. named_at (Rotate name) life name _ past fault (λ rank here. telling_at (Rotate name) life _ past fault
-    (at_fault (Rotate name) life life.past _ (runs, refl, (rank, 0, here, refl)) fault past))) r
-refuses_at (Import name text) life fault later r =
-    tapes_at (Import name text) (RefusesImport name text.items) life fault later
-    (λ runs past. named_at (Import name text) life name _ past fault
-    (λ rank here. telling_at (Import name text) life _ past fault
-    (λ fails. at_fault (Import name text) life life.past fails.0 (runs, refl, fails.1) fault past fails.2))) r
 refuses_at (Stop peer call choice) life fault later r =
     refused_stop peer call (Stop peer call choice) life fault later r
-refuses_at Restart life fault later r = restart_at life fault later r
+refuses_at step life fault later r = tapes_at step life fault later r
 
 ended_at : (step : Step) (life later : Life) → Ended step life later → AtEnd step life later.past
 ended_at step life later (inl (outputs, takes)) = takes_at step life outputs later takes

@@ -6,6 +6,7 @@ use Rattle.std.specs.Prelude.{◌==◌, if◌then◌else◌, nat_lt, IfOk}
 use Rattle.std.proofs.lemmas.Bool.{cases_lt, eq-eqb, le-ltb, lt-ltb, ne_eqb}
 use Rattle.std.proofs.lemmas.List.{length_push}
 use Rattle.std.specs.List.{AllZip, prefix_len, slice_get}
+use Rattle.std.specs.Global.{Vec}
 use Rattle.std.specs.Str.{bytes_eq}
 use Rattle.std.proofs.Math.Seq.{drop-length}
 use Rattle.disk_model.specs.declared.Disk.{Ghosts}
@@ -31,15 +32,16 @@ use Rattle.world_core.specs.Imports.{mark_behind, pending_behind, room_events, w
 use Rattle.world_core.specs.Importing.{BrokeAt, DidAt, HasImported, IsAt, IsBrokenAt, MadeNoRoom, MadeRoom}
 use Rattle.world_core.specs.Importing.{answer_above, one_new, pending_for, room_for}
 use Rattle.world_core.specs.Stands.{ClosedOne, DidOne, FailedOne, ImportedOne, PeerStands, Stands}
-use Rattle.world_core.specs.Stepped.{Did, Failed, Took, TookNot}
+use Rattle.world_core.specs.Stepped.{Did, Failed, TookTapes, TookNot}
 use Rattle.world_core.specs.Safe.{KeepsNotes}
-use Rattle.world_core.specs.Steps.{RefusesImport, TakesImport}
+use Rattle.world_core.specs.Steps.{IsPlan, Plan, planned}
 use Rattle.world_core.specs.Tapes.{RefusesClose, RefusesFlush, RefusesNote, RefusesOwe}
-use Rattle.world_core.specs.Output.{Imported as SaidImported, view_of}
+use Rattle.world_core.specs.Output.{Imported as SaidImported, View, view_of}
 use Rattle.world_core.specs.declared.fault.Fault.{Fault}
-use Rattle.world_core.specs.declared.fault.Fault.TheVariants.{NoMemory, NoPeer, Tape}
+use Rattle.world_core.specs.declared.fault.Fault.TheVariants.{Tape}
 use Rattle.world_core.specs.declared.peer.Peer.{Peer}
 use Rattle.world_core.specs.declared.stations.Stations.{Stations}
+use Rattle.world_core.specs.declared.step.Step.TheVariants.{Import}
 use Rattle.world_core.specs.declared.output.Output.{Output}
 use Rattle.world_core.specs.declared.output.Output.TheVariants.{Imported as OutputImported}
 use Rattle.world_core.proofs.EventLists.{did_none, did_one, did_then, failed_before, failed_one, failed_then}
@@ -47,6 +49,7 @@ use Rattle.world_core.proofs.PeerInWorld.{get_set, with_same}
 use Rattle.world_core.proofs.MarksAndNotes.{drop_push}
 use Rattle.world_core.proofs.SoundOverEvents.{safe_of}
 use Rattle.world_core.proofs.Results.{if_err_map, if_ok_map}
+use Rattle.world_core.proofs.TapeSteps.{failed_by, took_by}
 
 once : {A : Type 0} (x y : A) → Some x ≡ Some y → x ≡ y
 once x y same = cc
@@ -581,21 +584,10 @@ module _ {D : Type 0} {g : Ghosts D} where
           (failed_then past (room_events rank pending ++ Closes rank ∷ []) (Spills rank ∷ []) fault mid new did
           (failed_one did.later (Spills rank) fault new one))
 
-  -- ---- the step
+-- ---- the step
 
-  pub import_absent : (name text : List ℕ) (past : Past) (fault : Fault) (stations : Stations D g) → fault ≡ NoPeer
-      → rank_of past name ≡ None → Stands stations past → TookNot (RefusesImport name text) past fault stations
-  import_absent name text past fault stations outputs none stands =
-      record { later = past; refuses = inl (outputs, none, refl); stands = stands }
-
-  pub import_memory : (name text : List ℕ) (past : Past) (rank : ℕ) (fault : Fault) (stations : Stations D g)
-      → rank_of past name ≡ Some rank → fault ≡ NoMemory → Stands stations past
-      → TookNot (RefusesImport name text) past fault stations
-  import_memory name text past rank fault stations here memory stands =
-      record { later = past; refuses = inr (rank, here, inl (memory, refl)); stands = stands }
-
-module _ (name text : List ℕ) (past : Past) (rank : ℕ) (named : rank_of past name ≡ Some rank) (lines : List Good)
-    (has : HasGood text lines) where
+module _ (name : List ℕ) (text : Vec ℕ) (past : Past) (rank : ℕ) (named : rank_of past name ≡ Some rank)
+    (lines : List Good) (has : HasGood text.items lines) where
   its_peer : (p : PeerPast) × (slice_get past.peers rank ≡ Some p)
   its_peer = there past.peers rank (rank_within past name rank named)
 
@@ -612,7 +604,7 @@ module _ (name text : List ℕ) (past : Past) (rank : ℕ) (named : rank_of past
   at_first =
       record { peer = its_peer.0; here = its_peer.1; source_is = refl; pending_is = refl; mark_is = refl }
 
-  abbrev is_import : IsImport name text past (import_events rank pending_here mark_here lines)
+  abbrev is_import : IsImport name text.items past (import_events rank pending_here mark_here lines)
   is_import = record {
     rank = rank;
     peer = its_peer.0;
@@ -623,22 +615,24 @@ module _ (name text : List ℕ) (past : Past) (rank : ℕ) (named : rank_of past
     events_are = refl;
   }
 
-  module _ {D : Type 0} {g : Ghosts D} where
-    refused : (fault : Fault) (new : Stations D g)
-        → Failed past (import_events rank pending_here mark_here lines) fault new
-        → TookNot (RefusesImport name text) past fault new
-    refused fault new failed = record {
-      later = failed.later;
-      refuses = inr (rank, named, inr (import_events rank pending_here mark_here lines, is_import, failed.fails));
-      stands = failed.stands;
-    }
+  -- what the step reports
+  abbrev tells_here : Past → List View
+  tells_here later = SaidImported name source_here (count_new mark_here lines) ∷ []
 
+  abbrev plan_here : Plan
+  plan_here = planned past (import_events rank pending_here mark_here lines) tells_here
+
+  is_plan : IsPlan (Import name text) past plan_here
+  is_plan = (import_events rank pending_here mark_here lines, is_import, refl)
+
+  module _ {D : Type 0} {g : Ghosts D} where
     pub import_failed : (old : Stations D g) → Stands old past → (fault : Fault) (new : Stations D g)
         → ((p : Past) (source pending mark : ℕ) → Stands old p → IsAt p rank source pending mark
         → Failed p (import_events rank pending mark lines) fault new)
-        → TookNot (RefusesImport name text) past fault new
+        → TookNot (Import name text) past fault new
     import_failed old stands fault new tells =
-        refused fault new (tells past source_here pending_here mark_here stands at_first)
+        failed_by (Import name text) past plan_here fault new is_plan
+        (tells past source_here pending_here mark_here stands at_first)
 
     module _ (old : Stations D g) (stands : Stands old past) (count : ℕ) (mid new : Stations D g)
         (imports : (p : Past) (source pending mark : ℕ) → Stands old p → IsAt p rank source pending mark
@@ -649,9 +643,10 @@ module _ (name text : List ℕ) (past : Past) (rank : ℕ) (named : rank_of past
       pub import_not_closed : (fault : Fault)
           → ((p : Past) (source pending mark : ℕ) → Stands mid p → IsAt p rank source pending mark
           → Failed p (close_events rank pending) fault new)
-          → TookNot (RefusesImport name text) past fault new
+          → TookNot (Import name text) past fault new
       import_not_closed fault tells =
-          refused fault new (subst (λ (es : List Event). Failed past es fault new) (sym each.split)
+          failed_by (Import name text) past plan_here fault new is_plan
+          (subst (λ (es : List Event). Failed past es fault new) (sym each.split)
           (failed_then past each.events (close_events rank each.now_pending) fault mid new each.done.did
           (tells each.done.did.later source_here each.now_pending each.now_mark each.done.did.stands each.done.at)))
 
@@ -659,22 +654,15 @@ module _ (name text : List ℕ) (past : Past) (rank : ℕ) (named : rank_of past
           → outputs ≡ OutputImported own closed count ∷ []
           → ((p : Past) (source pending mark : ℕ) → Stands mid p → IsAt p rank source pending mark
           → (closed ≡ source) × Did p (close_events rank pending) new)
-          → Took (TakesImport name text) past outputs new
+          → TookTapes (Import name text) past outputs new
       import_took own closed outputs is tells closes =
           let closed_so = closes each.done.did.later source_here each.now_pending each.now_mark each.done.did.stands
           each.done.at in
-          let whole = subst (λ (es : List Event). Did past es new) (sym each.split)
-          (did_then past each.events (close_events rank each.now_pending) mid new each.done.did closed_so.1) in
           let counted : count ≡ count_new mark_here lines = omega (arith, each.counted) in
-          record {
-            later = whole.later;
-            takes = (
-              import_events rank pending_here mark_here lines,
-              is_import,
-              whole.does,
-              ap (map view_of) tells ∙ ap (λ (n : List ℕ). SaidImported n closed count ∷ []) is
-                  ∙ ap (λ (k : ℕ). SaidImported name k count ∷ []) closed_so.0
-                  ∙ ap (λ (k : ℕ). SaidImported name source_here k ∷ []) counted,
-            );
-            stands = whole.stands;
-          }
+          took_by (Import name text) past past (import_events rank pending_here mark_here lines) tells_here outputs new
+          is_plan
+          (subst (λ (es : List Event). Did past es new) (sym each.split)
+          (did_then past each.events (close_events rank each.now_pending) mid new each.done.did closed_so.1))
+          (ap (map view_of) tells ∙ ap (λ (n : List ℕ). SaidImported n closed count ∷ []) is
+          ∙ ap (λ (k : ℕ). SaidImported name k count ∷ []) closed_so.0
+          ∙ ap (λ (k : ℕ). SaidImported name source_here k ∷ []) counted)

@@ -1,34 +1,36 @@
 -- The debts of an acknowledged line are kept, and a line that is read again is new exactly if its peer had not noted
 -- it.
-use Rattle.std.proofs.Common.{◌≡◌, ◌⊎◌, ◌+◌, ◌++◌, ℕ, zero, suc, Bool, true, false, ◌&&◌, Some, List, [], ◌∷◌, length}
-use Rattle.std.proofs.Common.{map, refl, sym, ap, ◌∙◌, subst, inl, inr, append_assoc}
+use Rattle.std.proofs.Common.{◌≡◌, ◌⊎◌, ◌+◌, ◌++◌, ℕ, zero, suc, Bool, true, false, ◌&&◌, None, Some, List, [], ◌∷◌}
+use Rattle.std.proofs.Common.{length, map, refl, sym, ap, ◌∙◌, subst, inl, inr, append_assoc}
 use Rattle.std.specs.Prelude.{Contains, if◌then◌else◌, nat_lt}
 use Rattle.std.specs.Global.{Vec}
-use Rattle.std.specs.List.{AllZip, slice_get}
+use Rattle.std.specs.List.{AllByRecursion, AllZip, slice_get}
 use Rattle.std.proofs.Math.ListN.{set}
 use Rattle.std.proofs.lemmas.Option.{slice_get-get_or}
 use Rattle.ledger_core.specs.State.{State}
 use Rattle.peer_queue.specs.declared.limits.Owed.TheVariants.{New, Already}
 use Rattle.recovery.specs.Leaving.{IsPrefix}
 use Rattle.recovery.specs.LeavingLaws.{EachLedger-weaker, LedgersLeave-weaker}
-use Rattle.world_core.specs.Past.{Life, Past, PeerPast, mark_at, with_last, with_past}
-use Rattle.world_core.specs.Events.{AllDo, Does, Event, Owes, owed_as, owing_as}
+use Rattle.world_core.specs.Past.{Armed, Life, Past, PeerPast, mark_at, with_last, with_past}
+use Rattle.world_core.specs.Events.{AllDo, Does, Event, Owes, calls_disk, owed_as, owing_as}
 use Rattle.world_core.specs.Events.AllDo.{Start, Next}
 use Rattle.world_core.specs.Laws.{Comes, IsRecovered, OverRuns, StillOwes}
 use Rattle.world_core.specs.Laws.Comes.{No_step, Step_taken, Step_refused}
 use Rattle.world_core.specs.LineLaws.{LinesAreKept, LinesAreKeptWithin, LinesAreReadAgain, MadeDebt, OwesOrEnded}
 use Rattle.world_core.specs.LineLaws.{WasBad, WasRead, new_to, read_at, reported_new}
 use Rattle.world_core.specs.Moments.{StaysPrefix}
-use Rattle.world_core.specs.Runs.{Takes}
+use Rattle.world_core.specs.Runs.{Meets, Takes}
 use Rattle.world_core.specs.Safe.{IsSafe}
-use Rattle.world_core.specs.Steps.{Good, IsReading, NotGood, Reading, TakesReading, is_named, owed_there, owes_from}
+use Rattle.world_core.specs.Steps.{Good, IsReading, NotGood, Plan, Reading, is_named, owed_there, owes_from}
+use Rattle.world_core.specs.Steps.{reading_plan}
 use Rattle.world_core.specs.Output.{View}
 use Rattle.world_core.specs.declared.step.Step.{Step}
 use Rattle.world_core.specs.declared.step.Step.TheVariants.{Line}
-use Rattle.world_core.proofs.AcknowledgedLines.{lines_stand}
+use Rattle.world_core.proofs.AcknowledgedLines.{all_at, lines_stand}
 use Rattle.world_core.proofs.LineAtNamedPeers.{length_more}
 use Rattle.world_core.proofs.Moments.{moments_recovered, not_none}
 use Rattle.world_core.proofs.RecoveredNotes.{recover_all}
+use Rattle.world_core.proofs.WalkOverTapes.{owes_all}
 
 -- ---- lists
 
@@ -206,11 +208,16 @@ outputs_are number named (peer ∷ peers) =
     by false true is = is
     by false false is = is
 
-read_again : (life : Life) (outputs : List View) (later : Life) (past : Past) (text : Vec ℕ)
+-- what a plan of a line has made of the tapes, and has reported
+abbrev Read : List View → Past → Past → Plan → Type 0
+Read outputs mid later plan =
+    AllDo plan.begun plan.events mid × (outputs ≡ plan.tells mid) × (later ≡ plan.ends mid)
+
+read_again : (life : Life) (outputs : List View) (later : Life) (mid past : Past) (text : Vec ℕ)
     → later ≡ with_past life past → (reading : Reading) → IsReading text.items reading
-    → TakesReading reading life.past outputs past
+    → Read outputs mid past (reading_plan reading life.past)
     → WasRead (life.past.last + 1) text.items life outputs later ⊎ WasBad (life.past.last + 1) life outputs later
-read_again life outputs later past text changed (Good token id named) reads (said, (mid, does, is)) = inl (record {
+read_again life outputs later mid past text changed (Good token id named) reads (does, said, is) = inl (record {
   token = token;
   id = id;
   named = named;
@@ -222,17 +229,38 @@ read_again life outputs later past text changed (Good token id named) reads (sai
       (is ∙ ap (λ (p : Past). with_last p (life.past.last + 1))
       (all_read token id named [] life.past.peers life.past mid does));
 })
-read_again life outputs later past text changed (NotGood fault) reads (said, is) = inr (record {
+read_again life outputs later mid past text changed (NotGood fault) reads (does, said, is) = inr (record {
   fault = fault;
   tells = said;
-  changed = changed ∙ ap (with_past life) is;
+  changed = changed ∙ ap (with_past life)
+      (is ∙ ap (λ (p : Past). with_last p (life.past.last + 1)) (none_done life.past mid [] does refl));
 })
+
+-- a line calls no disk, so that no stop is met in it
+reading_quiet : (reading : Reading) (past : Past)
+    → AllByRecursion (λ (event : Event). calls_disk event ≡ None) (reading_plan reading past).events
+reading_quiet (Good token id named) past =
+    owes_all (λ (event : Event). calls_disk event ≡ None) token id (λ rank. refl) 0 named past.peers
+reading_quiet (NotGood fault) past = tt
+
+not_met : (text : Vec ℕ) (life : Life) (stop : Armed) (under_way : Past) → Meets (Line text) life stop under_way → ⊥
+not_met text life stop under_way meets =
+    let fails = meets.failed.fails in
+    let is = meets.failed.is_plan.1.2 in
+    let quiet = all_at (λ (event : Event). calls_disk event ≡ None) meets.failed.plan.events fails.count fails.event
+    (subst (λ (plan : Plan). AllByRecursion (λ (event : Event). calls_disk event ≡ None) plan.events) (sym is)
+    (reading_quiet meets.failed.is_plan.1.0 life.past)) fails.here in
+    let no = sym quiet ∙ meets.at_tape in cc
 
 took_line : (life later : Life) (outputs : List View) (text : Vec ℕ) → Takes (Line text) life outputs later
     → WasRead (life.past.last + 1) text.items life outputs later ⊎ WasBad (life.past.last + 1) life outputs later
 took_line life later outputs text (inl (runs, (past, line, changed))) =
-    read_again life outputs later past text changed line.reading line.reads line.takes
-took_line life later outputs text (inr strikes) = absurd strikes.meets.calls
+    read_again life outputs later line.mid past text
+    (changed ∙ ap (λ (running : Bool). record life { past = past; running = running }) (sym runs))
+    line.is_plan.1.0 line.is_plan.1.1
+    (subst (Read outputs line.mid past) line.is_plan.1.2 (line.does, line.outputs_are, line.later_is))
+took_line life later outputs text (inr strikes) =
+    absurd (not_met text life strikes.stop strikes.under_way strikes.meets)
 
 pub lines_read_again : LinesAreReadAgain
 lines_read_again = took_line

@@ -11,17 +11,20 @@ use Rattle.funnel.specs.declared.line.LineFault.TheVariants.{NoMemory as NoLineM
 use Rattle.recovery.specs.declared.tape.Tape.{Tape}
 use Rattle.std.specs.Global.{Vec}
 use Rattle.world_core.specs.Past.{Past, with_last}
-use Rattle.world_core.specs.Steps.{Good, NotGood, RefusesLine, TakesLine, line_events, owed_there}
+use Rattle.world_core.specs.Events.AllDo.{Start}
+use Rattle.world_core.specs.Steps.{Good, IsPlan, IsReading, NotGood, Reading, line_events, owed_there, reading_plan}
 use Rattle.world_core.specs.Output.{Bad as SaidBad, Owed as SaidOwed, view_of}
 use Rattle.world_core.specs.Stands.{PeerStands, Stands, TapeStands}
-use Rattle.world_core.specs.Stepped.{Failed, OwedLine, Took, TookNot}
+use Rattle.world_core.specs.Stepped.{Failed, OwedLine, TookTapes, TookNot}
 use Rattle.world_core.specs.declared.fault.Fault.{Fault}
 use Rattle.world_core.specs.declared.fault.Fault.TheVariants.{NoMemory}
 use Rattle.world_core.specs.declared.stations.Stations.{Stations}
+use Rattle.world_core.specs.declared.step.Step.TheVariants.{Line}
 use Rattle.world_core.specs.declared.output.OwedAt.{OwedAt}
 use Rattle.world_core.specs.declared.output.Output.{Output}
 use Rattle.world_core.specs.declared.output.Output.TheVariants.{Bad as OutputBad, Owed as OutputOwed}
 use Rattle.world_core.proofs.SoundOverEvents.{sound_last}
+use Rattle.world_core.proofs.TapeSteps.{barred_by, failed_by}
 
 -- the fault that was reported is a fault of the line
 pub reads_bad : (text : List ℕ) (fault : LineFault) → {T : Type 0}
@@ -54,30 +57,32 @@ module _ {D : Type 0} {g : Ghosts D} where
     sound = sound_last past n stands.sound above fits;
   }
 
-  module _ (text : List ℕ) (past : Past) (first : Stations D g) (number : ℕ) (stands : Stands first past)
-      (numbered : number ≡ first.last + 1)
-      (fits : number < 2 ^ 64) where
+  module _ (text : List ℕ) (line : Vec ℕ) (is : line.items ≡ text) (past : Past) (first : Stations D g) (number : ℕ)
+      (stands : Stands first past) (numbered_so : number ≡ first.last + 1) (fits : number < 2 ^ 64) where
     next : number ≡ past.last + 1
-    next = numbered ∙ ap (λ (n : ℕ). n + 1) stands.last
+    next = numbered_so ∙ ap (λ (n : ℕ). n + 1) stands.last
+
+    line_plan : (reading : Reading) → IsReading text reading → IsPlan (Line line) past (reading_plan reading past)
+    line_plan reading reads =
+        (omega (arith, next, fits), (reading, subst (λ (t : List ℕ). IsReading t reading) (sym is) reads, refl))
 
     pub line_good : (token id : List ℕ) (named : List (List ℕ)) (peers : Vec OwedAt) (outputs : List Output)
         (old new : Stations D g)
         → IsFunnelLine text token id named → OwedLine past token id named peers.items old → old.last ≡ first.last
         → WithLast old new number
-        → outputs ≡ OutputOwed number peers ∷ [] → Took (TakesLine text) past outputs new
+        → outputs ≡ OutputOwed number peers ∷ [] → TookTapes (Line line) past outputs new
     line_good token id named peers outputs old new reads owed kept same tells =
         let still : owed.did.later.last ≡ past.last = sym owed.did.stands.last ∙ kept ∙ stands.last in
         record {
           later = with_last owed.did.later (past.last + 1);
           takes = record {
-            fits = omega (arith, next, fits);
-            reading = Good token id named;
-            reads = reads;
-            takes = (
-              ap (map view_of) tells ∙ ap (λ l. SaidOwed number l ∷ []) owed.outputs_are
-                  ∙ ap (λ (n : ℕ). SaidOwed n (owed_there (past.last + 1) named past.peers) ∷ []) next,
-              (owed.did.later, owed.did.does, refl),
-            );
+            plan = reading_plan (Good token id named) past;
+            is_plan = line_plan (Good token id named) reads;
+            mid = owed.did.later;
+            does = owed.did.does;
+            outputs_are = ap (map view_of) tells ∙ ap (λ l. SaidOwed number l ∷ []) owed.outputs_are
+                ∙ ap (λ (n : ℕ). SaidOwed n (owed_there (past.last + 1) named past.peers) ∷ []) next;
+            later_is = refl;
           };
           stands = stands_last old new owed.did.later number (past.last + 1) owed.did.stands same next
               (omega (arith, still)) (omega (arith, next, fits));
@@ -85,31 +90,31 @@ module _ {D : Type 0} {g : Ghosts D} where
 
     pub line_bad : (fault : LineFault) (outputs : List Output) (new : Stations D g) → HasFault text fault
         → fault ≢ NoLineMemory → WithLast first new number
-        → outputs ≡ OutputBad number fault ∷ [] → Took (TakesLine text) past outputs new
+        → outputs ≡ OutputBad number fault ∷ [] → TookTapes (Line line) past outputs new
     line_bad fault outputs new has other same tells = record {
       later = with_last past (past.last + 1);
       takes = record {
-        fits = omega (arith, next, fits);
-        reading = NotGood fault;
-        reads = (has, other);
-        takes = (ap (map view_of) tells ∙ ap (λ (n : ℕ). SaidBad n fault ∷ []) next, refl);
+        plan = reading_plan (NotGood fault) past;
+        is_plan = line_plan (NotGood fault) (has, other);
+        mid = past;
+        does = Start;
+        outputs_are = ap (map view_of) tells ∙ ap (λ (n : ℕ). SaidBad n fault ∷ []) next;
+        later_is = refl;
       };
       stands = stands_last first new past number (past.last + 1) stands same next (omega arith)
           (omega (arith, next, fits));
     }
 
     pub line_memory : (fault : Fault) (new : Stations D g) → fault ≡ NoMemory → Stands new past
-        → TookNot (RefusesLine text) past fault new
-    line_memory fault new outputs is =
-        record { later = past; refuses = inr (inl (outputs, omega (arith, next, fits), refl)); stands = is }
+        → TookNot (Line line) past fault new
+    line_memory fault new memory stands =
+        barred_by (Line line) past fault new (inr (memory, omega (arith, next, fits))) stands
 
     pub line_failed : (token id : List ℕ) (named : List (List ℕ)) (fault : Fault) (new : Stations D g)
         → IsFunnelLine text token id named
         → ((fault ≡ NoMemory) × Stands new past) ⊎ Failed past (line_events token id named past) fault new
-        → TookNot (RefusesLine text) past fault new
+        → TookNot (Line line) past fault new
     line_failed token id named fault new reads (inl memory) = line_memory fault new memory.0 memory.1
-    line_failed token id named fault new reads (inr failed) = record {
-      later = failed.later;
-      refuses = inr (inr (omega (arith, next, fits), (token, id, named, reads, failed.fails)));
-      stands = failed.stands;
-    }
+    line_failed token id named fault new reads (inr failed) =
+        failed_by (Line line) past (reading_plan (Good token id named) past) fault new
+        (line_plan (Good token id named) reads) failed

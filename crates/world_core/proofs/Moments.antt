@@ -13,7 +13,7 @@ use Rattle.peer_queue.specs.declared.limits.Owed.{Owed}
 use Rattle.peer_queue.specs.declared.limits.Owed.TheVariants.{New, Already}
 use Rattle.peer_queue.specs.declared.settled.Settled.{Settled}
 use Rattle.peer_queue.specs.declared.settled.Settled.TheVariants.{Answered, Dropped, Later, Ready}
-use Rattle.world_core.specs.Past.{Life, Past, PeerPast, TapePast, mark_at, with_peer, with_places, with_tape}
+use Rattle.world_core.specs.Past.{Past, PeerPast, TapePast, mark_at, with_peer, with_places, with_tape}
 use Rattle.world_core.specs.Safe.{IsSafe, KeepsLines, KeepsNotes}
 use Rattle.world_core.specs.Events.{Acknowledges, AllDo, Claims, Closes, Does, Event, Imports, Opens, OpensIntake, Owes}
 use Rattle.world_core.specs.Events.{Parts, Refuses, Returns, Rotates, Sees, Settles, Sheds, Spills, import_key}
@@ -21,18 +21,17 @@ use Rattle.world_core.specs.Events.{claimed_peer, imported_as, owed_as, owing_as
 use Rattle.world_core.specs.Events.AllDo.{Start, Next}
 use Rattle.world_core.specs.Keeping.{PeerStays, PeersStay}
 use Rattle.world_core.specs.Laws.{StillOwes}
-use Rattle.world_core.specs.Moments.{AllMomentsAreRecovered, MayMake, StaysBelow, StaysPrefix}
+use Rattle.world_core.specs.Moments.{AllMomentsAreRecovered, StaysBelow, StaysPrefix}
 use Rattle.world_core.specs.Steps.{begun_at}
 use Rattle.world_core.specs.Tapes.{RefusesFlush, RefusesRotate, noted_at}
 use Rattle.world_core.specs.Tapes.Rotation.{Is_broken, Is_last, Is_long, Fits}
 use Rattle.world_core.specs.declared.fault.Fault.{Fault}
-use Rattle.world_core.specs.declared.step.Step.{Step}
-use Rattle.world_core.specs.declared.step.Step.TheVariants.{Flush, Import, Part, Restart, Rotate, Seal}
 use Rattle.world_core.proofs.AcknowledgedOverEvents.{peer_same, stay_same, stay_then}
 use Rattle.world_core.proofs.RecoveredNotes.{comes_safe, still_owes}
 use Rattle.world_core.proofs.AcknowledgedOverRuns.{all_stay, events_stay}
 use Rattle.world_core.proofs.SoundOverEvents.{all_begun}
 use Rattle.world_core.proofs.RelatedLists.{zip_made, zip_put, zip_same, zip_weaker}
+use Rattle.world_core.proofs.WalkOverTapes.{frame}
 
 -- ---- lists
 
@@ -269,16 +268,6 @@ event_lasts event was now (inr (fault, refuses)) = refused_lasts event was now f
 
 -- ---- where a step's events begin
 
-pub starts : (step : Step) (life : Life) (begun : Past) (events : List Event) → MayMake step life begun events
-    → (begun ≡ life.past) ⊎ (begun ≡ begun_at life.past)
-starts Flush life begun events may = inr may.1
-starts (Part name) life begun events may = inl may.1
-starts Seal life begun events may = inl may.1
-starts (Rotate name) life begun events may = inl may.1
-starts (Import name text) life begun events may = inl may.1
-starts Restart life begun events may = inl may.1
-starts step life begun events may = absurd may
-
 -- the same tapes, all of them safe
 abbrev IsStart : Past → Past → Type 0
 IsStart was now = PeersStay was now × IsSafe now
@@ -311,14 +300,14 @@ safe_behind begun _ _ (Next events event past later does one safe') safe = safe'
 
 pub moments_recovered : AllMomentsAreRecovered
 moments_recovered = λ begun life steps lines comes step was now way.
-    let start = started life.past way.begun (comes_safe begun steps lines life comes)
-    (starts step life way.begun way.events way.may) in
-    let safe = safe_behind way.begun was _ way.prefix start.1 in
+    let start = started life.past way.plan.begun (comes_safe begun steps lines life comes)
+    (frame step life.past way.plan way.is_plan).begins in
+    let safe = safe_behind way.plan.begun was _ way.prefix start.1 in
     record {
       prefixes = zip_with Leaves IsSafePeer StaysPrefix (λ old new leaves is. leaves is) was.peers now.peers
           (event_leaves way.event was now way.makes) safe.peers;
       owes = zip_weaker PeerStays StillOwes still_owes begun.past.peers was.peers
           (stay_then begun.past life.past was (all_stay begun life steps lines comes).peers
-          (stay_then life.past way.begun was start.0 (events_stay way.begun was _ way.prefix)));
+          (stay_then life.past way.plan.begun was start.0 (events_stay way.plan.begun was _ way.prefix)));
       lines = event_lasts way.event was now way.makes safe.intake;
     }

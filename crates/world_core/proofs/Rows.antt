@@ -25,11 +25,11 @@ use Rattle.world_core.specs.Halts.{AtRest, ByChoice, armed_with, halted, left, r
 use Rattle.world_core.specs.Imports.{Good, count_new, import_events}
 use Rattle.world_core.specs.Laws.{IsAcknowledgedLine}
 use Rattle.world_core.specs.LineLaws.{MadeDebt, OwesOrEnded, new_to, read_by, reported_new}
-use Rattle.world_core.specs.Moments.{IsUnderWay, MayMake, StaysPrefix}
+use Rattle.world_core.specs.Moments.{IsUnderWay, StaysPrefix}
 use Rattle.world_core.specs.Safe.{IsSafe}
 use Rattle.world_core.specs.Tapes.{noted_at}
-use Rattle.world_core.specs.Steps.{begun_at, flush_events, is_named, line_events, owed_there}
-use Rattle.world_core.specs.Output.{Mark, Owed, View, lines_in, mark_view}
+use Rattle.world_core.specs.Steps.{IsPlan, begun_at, flush_events, is_named, line_events, owed_there, planned}
+use Rattle.world_core.specs.Output.{Mark, Owed, Rotated, View, lines_in, mark_view}
 use Rattle.world_core.specs.declared.fault.Fault.TheVariants.{Tape}
 use Rattle.world_core.specs.declared.step.Step.TheVariants.{Part, Rotate}
 
@@ -193,9 +193,9 @@ module _ (conf : PeerConf) where
 
   part_under_way : IsUnderWay (Part (codes "p")) broken_life broken_life.past broken_life.past
   part_under_way = record {
-    begun = broken_life.past;
-    events = Parts 0 ∷ [];
-    may = (refl, refl, (0, refl, refl));
+    running = refl;
+    plan = planned broken_life.past (Parts 0 ∷ []) (λ (later : Past). []);
+    is_plan = (0, refl, refl);
     count = 0;
     prefix = Start;
     event = Parts 0;
@@ -217,8 +217,9 @@ module _ (conf : PeerConf) where
   part_within safe = (at_start safe.peers.0, tt)
 
   -- a rotation may end in any generation
-  may_rotate : MayMake (Rotate (codes "p")) broken_life broken_life.past (Rotates 0 7 ∷ [])
-  may_rotate = (refl, refl, (0, 7, refl, refl))
+  may_rotate : IsPlan (Rotate (codes "p")) broken_life.past
+      (planned broken_life.past (Rotates 0 7 ∷ []) (λ (later : Past). Rotated (codes "p") 7 ∷ []))
+  may_rotate = (0, refl, (7, refl))
 
   -- a line between the part and the seal: the kept number is sealed, and the later line is not acknowledged
   abbrev one : Past

@@ -1,35 +1,31 @@
 -- What the steps on tapes make of a world, and what a stop that is met in one makes of it.
 use Rattle.std.proofs.Common.{◌≡◌, ℕ, zero, suc, true, Option, None, Some, List, [], ◌∷◌, map, refl, sym, ap}
 use Rattle.std.proofs.Common.{◌∙◌, subst, inl, inr}
-use Rattle.std.specs.Prelude.{Contains, IfErr, OnOk, Result, Vec, option_map}
-use Rattle.std.specs.declared.alloc.Global.{Global}
+use Rattle.std.specs.Prelude.{Bool, Contains, IfErr, OnOk, Result, option_map}
+use Rattle.disk_model.specs.declared.Disk.{Ghosts}
 use Rattle.std.specs.List.{AllByRecursion, AllZip, slice_get}
 use Rattle.recovery.specs.declared.fault.TapeFault.TheVariants.{Disk}
 use Rattle.world_core.specs.Past.{Armed, ConnPast, Life, Past, PeerPast, TapePast, options_of, rank_of, with_past}
 use Rattle.ledger_core.specs.declared.note.Note.{Note}
 use Rattle.ledger_core.specs.declared.note.Note.TheVariants.{Owe}
 use Rattle.world_core.specs.Tapes.{RefusesClose, RefusesOwe}
-use Rattle.world_core.specs.Events.{Event, Fails, Parts, Refuses as RefusesEvent, Rotates, calls_disk}
-use Rattle.world_core.specs.Events.{closing, import_key}
-use Rattle.world_core.specs.Imports.{IsImport, import_events}
-use Rattle.world_core.specs.Opening.{FailsAt}
-use Rattle.world_core.specs.Steps.{RefusesFlushing, RefusesImport, RefusesPart, RefusesRotation, RefusesSeal, begun_at}
-use Rattle.world_core.specs.Steps.{flush_events, seal_events}
-use Rattle.world_core.specs.Halts.{AtRest, ByChoice, Meets, halted}
-use Rattle.world_core.specs.Runs.{Does, OnTapes, Refuses, RefusesTapes}
+use Rattle.world_core.specs.Events.{Event, Refuses as RefusesEvent, closing, import_key}
+use Rattle.world_core.specs.Imports.{Good, import_events}
+use Rattle.world_core.specs.Steps.{IsBarred, IsBarredAt, IsPlan, Plan, RefusesPlan, begun_at, must_run}
+use Rattle.world_core.specs.Halts.{AtRest, ByChoice, GoesOn, halted}
+use Rattle.world_core.specs.Runs.{Does, Meets, Refuses, RefusesTapes, TakesTapes}
 use Rattle.world_core.specs.Sound.{AreTied, HasNumber, IsSoundConn, numbers_at}
 use Rattle.world_core.specs.Stands.{ConnectionStands, HoldsTranscript, StageStands, Stands, WaitsWith, WorldStands}
 use Rattle.world_core.specs.Stands.{armed_as}
-use Rattle.world_core.specs.Stepped.{HaltedAs, Took as TookTapes, TookNot}
+use Rattle.world_core.specs.Stepped.{DiskFails, HaltedAs, TookTapes, TookNot}
 use Rattle.world_core.specs.Output.{View, view_of}
-use Rattle.world_core.specs.Turn.{DiskFails, GoesOn, Made, Refused, Took, WasHalted, WasNotTaken, WasStruck}
-use Rattle.world_core.specs.Turn.{WasStruckUnreported}
+use Rattle.world_core.specs.Turn.{Made, Refused, Took, WasHalted, WasNotTaken, WasStruck, WasStruckUnreported}
 use Rattle.world_core.specs.declared.connection.Connection.{Connection}
 use Rattle.world_core.specs.declared.fault.Fault.{Fault}
 use Rattle.world_core.specs.declared.fault.Fault.TheVariants.{Tape}
 use Rattle.world_core.specs.declared.fault.Halt.{Halt}
 use Rattle.world_core.specs.declared.step.Step.{Step}
-use Rattle.world_core.specs.declared.step.Step.TheVariants.{Begin, Flush, Import, Part, Rotate, Seal}
+use Rattle.world_core.specs.declared.step.Step.TheVariants.{Begin, Import, Part, Rotate, Seal}
 use Rattle.world_core.specs.declared.stop.StopDisk.{StopDisk}
 use Rattle.world_core.specs.declared.stations.Stations.{Stations}
 use Rattle.world_core.specs.declared.output.Output.{Output}
@@ -37,11 +33,11 @@ use Rattle.world_core.specs.declared.world.Arming.{Arming}
 use Rattle.world_core.specs.declared.world.Stage.{Stage}
 use Rattle.world_core.specs.declared.world.Stage.TheVariants.{Running}
 use Rattle.world_core.specs.declared.world.World.{World}
-use Rattle.world_core.proofs.HeldOverEvents.{AllHold, HoldsSame, holds_begin, steady}
-use Rattle.world_core.proofs.AcknowledgedLines.{all_at}
+use Rattle.world_core.proofs.EventLists.{did_none}
+use Rattle.world_core.proofs.HeldOverEvents.{AllHold, HoldsSame, steady}
 use Rattle.world_core.proofs.ImportEvents.{all_import}
-use Rattle.world_core.proofs.TapeSteps.{note_not, seal_at}
-use Rattle.world_core.proofs.WalkOverTapes.{flush_refused}
+use Rattle.world_core.proofs.TapeSteps.{FailsOnlyAt, fails_there, note_not, seal_only, took_by}
+use Rattle.world_core.proofs.WalkOverTapes.{OnStep, OnTape, refuses_keep, takes_keep}
 use Rattle.world_core.proofs.RelatedLists.{zip_weaker}
 
 -- ---- what connections hold stays
@@ -179,23 +175,28 @@ armed_is o arming a is same = sym same ∙ ap (option_map armed_as) is
 
 meets : (step : Step) (life : Life) (halt : Halt) (under_way : Past) (arming : Arming)
     → life.armed ≡ Some (armed_as arming)
-    → halt.fault ≡ Tape Disk → arming.rank ≡ halt.rank → DiskFails step life halt under_way
+    → halt.fault ≡ Tape Disk → arming.rank ≡ halt.rank
+    → (life.running ≡ must_run step) × DiskFails step life.past halt under_way
     → Meets step life (armed_as arming) under_way
-meets step life halt under_way arming armed is at fails =
-    let one = fails.fails.fails in
+meets step life halt under_way arming armed is at (running, disk) =
+    let fails = disk.failed.fails in
     record {
       armed = armed;
-      begun = fails.begun;
-      events = fails.events;
-      calls = fails.calls;
-      count = one.count;
-      mid = one.mid;
-      event = one.event;
-      prefix = one.prefix;
-      here = one.here;
-      at_tape = fails.fails.at ∙ ap (λ (o : Option ℕ). Some o) (sym at);
-      met = subst (λ (f : Fault). RefusesEvent one.event one.mid f under_way) is one.refused;
-      before = one.safe;
+      running = running;
+      failed = record {
+        plan = disk.failed.plan;
+        is_plan = disk.failed.is_plan;
+        fails = record {
+          count = fails.count;
+          mid = fails.mid;
+          event = fails.event;
+          prefix = fails.prefix;
+          here = fails.here;
+          refused = subst (λ (f : Fault). RefusesEvent fails.event fails.mid f under_way) is fails.refused;
+          safe = fails.safe;
+        };
+      };
+      at_tape = disk.at ∙ ap (λ (o : Option ℕ). Some o) (sym at);
     }
 
 module _ (step : Step) (life : Life) (halt : Halt) (old : World) (was : WasHalted step life halt old)
@@ -257,111 +258,64 @@ module _ (old new : World) (life : Life) (stations now : Stations StopDisk _) (c
   later_stands : (past : Past) → Stands now past → AllHold life.past past → WorldStands new (with_past life past)
   later_stands past on all = stands_on old new life past stations now conns stands was is on all armed connected moment
 
-  pub took_tapes : (step : Step) (T : Past → List View → Past → Type 0) (outputs : List Output)
-      → ((outputs : List View) (later : Life) → OnTapes T life outputs later → Does step life outputs later)
-      → ((past later : Past) (outputs : List View) → T past outputs later → AllHold past later)
-      → (Stands stations life.past → TookTapes T life.past outputs now) → Took step life outputs new
-  took_tapes step T outputs does holds took =
-      let t = took on_now in
-      took_does step life (with_past life t.later) outputs new
-      (does (map view_of outputs) (with_past life t.later) (runs_now, (t.later, t.takes, refl)))
-      (later_stands t.later t.stands (holds life.past t.later (map view_of outputs) t.takes))
+  -- of what the step keeps of all tapes, what connections hold is kept, too
+  module _ (step : Step) (must : must_run step ≡ true) where
+    on_step : (event : Event) → OnStep (must_run step) event → OnTape event
+    on_step event on = subst (λ (runs : Bool). OnStep runs event) must on
 
-  pub took_not : (step : Step) (R : Past → Fault → Past → Type 0) (fault : Fault)
-      → ((later : Life) → RefusesTapes R life fault later → Refuses step life fault later)
-      → ((past later : Past) (fault : Fault) → R past fault later → AllHold past later)
-      → (Stands stations life.past → TookNot R life.past fault now) → WasNotTaken step life fault new
-  took_not step R fault refuses holds took =
-      let t = took on_now in
-      not_taken step life (with_past life t.later) fault new
-      (refuses (with_past life t.later) (inr (runs_now, (t.later, t.refuses, refl))))
-      (later_stands t.later t.stands (holds life.past t.later fault t.refuses))
+    started : life.running ≡ must_run step
+    started = runs_now ∙ sym must
 
-  pub was_halted : (step : Step) (R : Past → Fault → Past → Type 0) (halt : Halt)
-      → ((later : Life) → RefusesTapes R life halt.fault later → Refuses step life halt.fault later)
-      → ((past later : Past) (fault : Fault) → R past fault later → AllHold past later)
-      → (Stands stations life.past
-      → (t : TookNot R life.past halt.fault now)
-      × (halt.fault ≡ Tape Disk → life.running ≡ true → DiskFails step life halt t.later))
-      → WasHalted step life halt new
-  was_halted step R halt refuses holds took =
-      let both = took on_now in
-      let t = both.0 in
-      record {
-        under_way = t.later;
-        now = with_past life t.later;
-        goes_on = inl (runs_now, refl);
-        refuses = refuses (with_past life t.later) (inr (runs_now, (t.later, t.refuses, refl)));
-        stands = later_stands t.later t.stands (holds life.past t.later halt.fault t.refuses);
-        disk = λ fails. both.1 fails runs_now;
-      }
+    pub took_tapes : (outputs : List Output)
+        → ((outputs : List View) (later : Life) → TakesTapes step life outputs later → Does step life outputs later)
+        → (Stands stations life.past → TookTapes step life.past outputs now) → Took step life outputs new
+    took_tapes outputs does took =
+        let t = took on_now in
+        let runs : record life { past = t.later; running = true } ≡ with_past life t.later =
+        ap (λ (running : Bool). record life { past = t.later; running = running }) (sym runs_now) in
+        took_does step life (with_past life t.later) outputs new
+        (does (map view_of outputs) (with_past life t.later) (started, (t.later, t.takes, sym runs)))
+        (later_stands t.later t.stands
+        (takes_keep steady step on_step life.past t.later (map view_of outputs) t.takes))
+
+    refused_stands : (fault : Fault) (t : TookNot step life.past fault now)
+        → WorldStands new (with_past life t.later)
+    refused_stands fault t =
+        later_stands t.later t.stands (refuses_keep steady step on_step life.past t.later fault t.refuses)
+
+    pub took_not : (fault : Fault)
+        → ((later : Life) → RefusesTapes step life fault later → Refuses step life fault later)
+        → (Stands stations life.past → TookNot step life.past fault now) → WasNotTaken step life fault new
+    took_not fault refuses took =
+        let t = took on_now in
+        not_taken step life (with_past life t.later) fault new
+        (refuses (with_past life t.later) (inr (started, (t.later, t.refuses, inl (runs_now, refl)))))
+        (refused_stands fault t)
+
+    pub was_halted : (halt : Halt)
+        → ((later : Life) → RefusesTapes step life halt.fault later → Refuses step life halt.fault later)
+        → (Stands stations life.past → HaltedAs step life.past halt now) → WasHalted step life halt new
+    was_halted halt refuses took =
+        let h = took on_now in
+        let t = h.refused in
+        record {
+          under_way = t.later;
+          now = with_past life t.later;
+          goes_on = inl (runs_now, refl);
+          refuses =
+              refuses (with_past life t.later) (inr (started, (t.later, t.refuses, inl (runs_now, refl))));
+          stands = refused_stands halt.fault t;
+          disk = λ disk. (started, h.disk disk);
+        }
 
   pub began : (outputs : List Output) → outputs ≡ [] → (Stands stations life.past → Stands now (begun_at life.past))
       → Took Begin life outputs new
   began outputs none begins =
-      took_does Begin life (with_past life (begun_at life.past)) outputs new
-      (runs_now, (begun_at life.past, (ap (map view_of) none, refl), refl))
-      (later_stands (begun_at life.past) (begins on_now) (holds_begin life.past))
-
-  pub flush_was_halted : (halt : Halt)
-      → (Stands stations life.past
-      → HaltedAs RefusesFlushing (begun_at life.past) (flush_events life.past) life.past halt now)
-      → WasHalted Flush life halt new
-  flush_was_halted halt took = was_halted Flush RefusesFlushing halt (λ later r. r) (flush_refused steady)
-      (λ on.
-      let t = took on in (
-        record { later = t.later; refuses = t.refuses; stands = t.stands },
-        (λ disk runs. record {
-          begun = begun_at life.past;
-          events = flush_events life.past;
-          calls =
-              (runs, refl, refl);
-          fails = t.disk disk;
-        }),
-      ))
+      took_tapes Begin refl outputs (λ said later t. t)
+      (λ on. took_by Begin life.past (begun_at life.past) [] (λ later. []) outputs now refl
+      (did_none (begun_at life.past) now (begins on)) (ap (map view_of) none))
 
 -- ---- the event in which a disk failed
-
--- the event that was refused is the only one
-one_event : (past later : Past) (event : Event) (fault : Fault) (fails : Fails past (event ∷ []) fault later)
-    → fails.event ≡ event
-one_event past later event fault fails = only fails.count fails.event fails.here
-  where
-    only : (count : ℕ) (e : Event) → slice_get (event ∷ []) count ≡ Some e → e ≡ event
-    only zero e here = cc
-    only (suc count) e here = absurd cc
-
-pub part_fails : (life : Life) (name : List ℕ) (halt : Halt) (later : Past) → rank_of life.past name ≡ halt.rank
-    → life.running ≡ true
-    → RefusesPart name life.past halt.fault later → halt.fault ≡ Tape Disk → DiskFails (Part name) life halt later
-part_fails life name halt later at runs (inl none) disk = absurd (let no = none.0 in cc)
-part_fails life name halt later at runs (inr (rank, here, fails)) disk = record {
-  begun = life.past;
-  events = Parts rank ∷ [];
-  calls = (runs, refl, (rank, here, refl));
-  fails = record {
-    fails = fails;
-    at =
-        ap calls_disk (one_event life.past later (Parts rank) halt.fault fails)
-        ∙ ap (λ (o : Option ℕ). Some o) (sym here ∙ at);
-  };
-}
-
-pub rotate_fails : (life : Life) (name : List ℕ) (halt : Halt) (later : Past) → rank_of life.past name ≡ halt.rank
-    → life.running ≡ true
-    → RefusesRotation name life.past halt.fault later → halt.fault ≡ Tape Disk → DiskFails (Rotate name) life halt later
-rotate_fails life name halt later at runs (inl none) disk = absurd (let no = none.0 in cc)
-rotate_fails life name halt later at runs (inr (rank, here, inl memory)) disk = absurd (let no = memory.0 in cc)
-rotate_fails life name halt later at runs (inr (rank, here, inr fails)) disk = record {
-  begun = life.past;
-  events = Rotates rank 0 ∷ [];
-  calls = (runs, refl, (rank, here, refl));
-  fails = record {
-    fails = fails;
-    at = ap calls_disk (one_event life.past later (Rotates rank 0) halt.fault fails)
-        ∙ ap (λ (o : Option ℕ). Some o) (sym here ∙ at);
-  };
-}
 
 -- of an import's events, a failing disk can refuse only a flush of its peer
 owe_not : (tape : TapePast) (note : Note) → RefusesOwe tape note (Tape Disk) → ⊥
@@ -374,51 +328,63 @@ close_not : (tape : TapePast) (note : Note) → RefusesClose tape note (Tape Dis
 close_not tape note (inl full) = let no = full.0 in cc
 close_not tape note (inr refused) = note_not tape refused.1
 
-import_at : (name text : List ℕ) (past later : Past) (events : List Event) (is : IsImport name text past events)
-    (fails : Fails past events (Tape Disk) later) → calls_disk fails.event ≡ Some (Some is.rank)
-import_at name text past later events is fails =
-    all_at (λ (e : Event). (mid : Past) → RefusesEvent e mid (Tape Disk) later → calls_disk e ≡ Some (Some is.rank))
-    (import_events is.rank _ _ is.lines) fails.count fails.event
-    (all_import (λ (e : Event). (mid : Past) → RefusesEvent e mid (Tape Disk) later
-    → calls_disk e ≡ Some (Some is.rank)) is.rank (λ mid refused. refl)
-    (λ mid refused. absurd (close_not refused.peer.tape (closing refused.peer) refused.refused.0))
-    (λ number token id mid refused. absurd (owe_not refused.peer.tape
-    (Owe (import_key number refused.peer) token id) refused.refused.1)) _ _ is.lines)
-    (ap (λ (es : List Event). slice_get es fails.count) (sym is.events_are) ∙ fails.here) fails.mid fails.refused
+import_only : (rank : ℕ) (pending mark : ℕ) (lines : List Good)
+    → AllByRecursion (FailsOnlyAt (Some rank)) (import_events rank pending mark lines)
+import_only rank pending mark lines =
+    all_import (FailsOnlyAt (Some rank)) rank (λ mid later refused. refl)
+    (λ mid later refused. absurd (close_not refused.peer.tape (closing refused.peer) refused.refused.0))
+    (λ number token id mid later refused. absurd (owe_not refused.peer.tape
+    (Owe (import_key number refused.peer) token id) refused.refused.1)) pending mark lines
 
-pub import_fails : (life : Life) (name : List ℕ) (text : Vec ℕ Global) (halt : Halt) (later : Past)
-    → rank_of life.past name ≡ halt.rank → life.running ≡ true
-    → RefusesImport name text.items life.past halt.fault later → halt.fault ≡ Tape Disk
-    → DiskFails (Import name text) life halt later
-import_fails life name text halt later at runs (inl none) disk = absurd (let no = none.0 in cc)
-import_fails life name text halt later at runs (inr (rank, here, inl memory)) disk = absurd (let no = memory.0 in cc)
-import_fails life name text halt later at runs (inr (rank, here, inr (events, is, fails))) disk =
-    let failed = subst (λ (f : Fault). Fails life.past events f later) disk fails in
-    record {
-      begun = life.past;
-      events = events;
-      calls = (runs, refl, is);
-      fails = subst (λ (f : Fault). FailsAt life.past events (record { rank = halt.rank; fault = f }) later) (sym disk)
-          (record {
-            fails = failed;
-            at = import_at name text.items life.past later events is failed
-                ∙ ap (λ (o : Option ℕ). Some o) (sym is.named ∙ at);
-          });
-    }
+-- the tape whose disks a step calls, if it calls those of one tape
+abbrev pub CallsOnly : Step → Past → Option ℕ → Type 0
+CallsOnly (Part name) past rank = rank_of past name ≡ rank
+CallsOnly (Rotate name) past rank = rank_of past name ≡ rank
+CallsOnly (Import name text) past rank = rank_of past name ≡ rank
+CallsOnly Seal past rank = rank ≡ None
+CallsOnly step past rank = ⊥
 
-pub seal_fails : (life : Life) (halt : Halt) (later : Past) → halt.rank ≡ None → life.running ≡ true
-    → RefusesSeal life.past halt.fault later → halt.fault ≡ Tape Disk → DiskFails Seal life halt later
-seal_fails life halt later at runs (inl none) disk = absurd (let no = none.0 in cc)
-seal_fails life halt later at runs (inr (number, may, inl memory)) disk = absurd (let no = memory.0 in cc)
-seal_fails life halt later at runs (inr (number, may, inr fails)) disk = record {
-  begun = life.past;
-  events = seal_events number;
-  calls = (runs, refl, (number, may, refl));
-  fails = record {
-    fails = fails;
-    at = seal_at life.past later number halt.fault disk fails ∙ ap (λ (o : Option ℕ). Some o) (sym at);
-  };
-}
+plan_only : (step : Step) (past : Past) (rank : Option ℕ) (plan : Plan) → CallsOnly step past rank
+    → IsPlan step past plan → AllByRecursion (FailsOnlyAt rank) plan.events
+plan_only (Part name) past rank plan at (r, here, is) =
+    rw (is, sym at ∙ here) ((λ mid later refused. refl), tt)
+plan_only (Rotate name) past rank plan at (r, here, (generation, is)) =
+    rw (is, sym at ∙ here) ((λ mid later refused. refl), tt)
+plan_only (Import name text) past rank plan at (events, its, is) =
+    rw (is, its.events_are, sym at ∙ its.named) (import_only its.rank _ _ its.lines)
+plan_only Seal past rank plan none (number, may, is) = rw (is, none) (seal_only number)
+plan_only step past rank plan none is = absurd none
+
+barred_at : (name : List ℕ) (past : Past) → IsBarredAt name past (Tape Disk) → ⊥
+barred_at name past (inl none) = let no = none.0 in cc
+barred_at name past (inr memory) = let no = memory.0 in cc
+
+-- such a step is not refused for a failing disk before its events
+barred_not : (step : Step) (past : Past) (rank : Option ℕ) → CallsOnly step past rank
+    → IsBarred step past (Tape Disk) → ⊥
+barred_not (Part name) past rank at none = let no = none.0 in cc
+barred_not (Rotate name) past rank at barred = barred_at name past barred
+barred_not (Import name text) past rank at barred = barred_at name past barred
+barred_not Seal past rank none (inl unready) = let no = unready.0 in cc
+barred_not Seal past rank none (inr memory) = let no = memory.0 in cc
+barred_not step past rank none barred = absurd none
+
+-- if a disk failed, it was at that tape
+module _ (step : Step) (past : Past) (halt : Halt) (calls : CallsOnly step past halt.rank) where
+  disk_fails : (later : Past) → RefusesPlan step past halt.fault later → halt.fault ≡ Tape Disk
+      → DiskFails step past halt later
+  disk_fails later (inl barred) disk =
+      absurd (barred_not step past halt.rank calls (subst (IsBarred step past) disk barred.0))
+  disk_fails later (inr (inl failed)) disk = record {
+    failed = failed;
+    at = fails_there halt.rank failed.plan.begun later failed.plan.events halt.fault
+        (plan_only step past halt.rank failed.plan calls failed.is_plan) disk failed.fails;
+  }
+  disk_fails later (inr (inr lacks)) disk = absurd (let no = sym lacks.memory ∙ disk in cc)
+
+  pub halted_there : {D : Type 0} {g : Ghosts D} → (stations : Stations D g) → TookNot step past halt.fault stations
+      → HaltedAs step past halt stations
+  halted_there stations t = record { refused = t; disk = disk_fails t.later t.refuses }
 
 -- ---- a step that meets no stop
 

@@ -1,5 +1,5 @@
 -- The steps on tapes, from their events.
-use Rattle.std.proofs.Common.{◌≡◌, ℕ, zero, suc, ◌+◌, ◌<◌, true, false, None, Some, List}
+use Rattle.std.proofs.Common.{◌≡◌, ℕ, zero, suc, ◌+◌, ◌<◌, true, false, Option, None, Some, List}
 use Rattle.std.proofs.Common.{[], ◌∷◌, ◌++◌, length, take, map, refl, sym, ap, ◌∙◌, subst, inl, inr, arith, add-one}
 use Rattle.std.proofs.Common.{cond, not}
 use Rattle.std.specs.Prelude.{nat_lt}
@@ -10,25 +10,26 @@ use Rattle.std.proofs.Math.ListN.{set}
 use Rattle.std.proofs.lemmas.List.{length-map, length-set, take_all}
 use Rattle.disk_model.specs.declared.Disk.{Ghosts}
 use Rattle.recovery.specs.Words.{ledger_of}
-use Rattle.world_core.specs.Past.{Past, PeerPast, TapePast, mark_at, rank_of}
-use Rattle.world_core.specs.Output.{Rotated as SaidRotated, Shed as SaidShed, Taken as SaidTaken, view_of}
+use Rattle.world_core.specs.Past.{Past, PeerPast, TapePast, rank_of}
+use Rattle.world_core.specs.Output.{Rotated as SaidRotated, View, Shed as SaidShed, Taken as SaidTaken, view_of}
 use Rattle.recovery.specs.declared.fault.TapeFault.TheVariants.{Disk}
 use Rattle.world_core.specs.Tapes.{RefusesNote}
-use Rattle.world_core.specs.Events.{Acknowledges, Event, Fails, Parts, Refuses, Rotates, Sees, Sheds, calls_disk}
-use Rattle.world_core.specs.Events.{each_rank, parted}
-use Rattle.world_core.specs.Steps.{IsSealable, RefusesFlushing, RefusesPart, RefusesRotation, RefusesSeal, RefusesShed}
-use Rattle.world_core.specs.Steps.{TakesFlush, TakesPart}
-use Rattle.world_core.specs.Steps.{TakesRotate, TakesSeal, TakesShed, begun_at, flush_events, seal_events}
+use Rattle.world_core.specs.Events.{Acknowledges, Event, Fails, Parts, Refuses, Sees, calls_disk, each_rank, parted}
+use Rattle.world_core.specs.Steps.{IsBarred, IsPlan, IsSealable, Plan, begun_at, flush_events, planned, seal_events}
+use Rattle.world_core.specs.Steps.{seal_view}
 use Rattle.world_core.specs.Stands.{DidOne, FailedOne, PeerStands, Stands}
-use Rattle.world_core.specs.Stepped.{Did, Failed, FailedAt, HaltedAs, PartedEach, Took, TookNot}
+use Rattle.world_core.specs.Stepped.{Did, Failed, FailedAt, HaltedAs, PartedEach, TookTapes, TookNot}
 use Rattle.world_core.specs.declared.fault.Fault.{Fault}
-use Rattle.world_core.specs.declared.fault.Fault.TheVariants.{NoMemory, NoPeer, NotFlushed, Tape}
+use Rattle.world_core.specs.declared.fault.Fault.TheVariants.{NoMemory, Tape}
 use Rattle.world_core.specs.declared.fault.Halt.{Halt}
 use Rattle.world_core.specs.declared.peer.Peer.{Peer}
 use Rattle.world_core.specs.declared.stations.Stations.{Stations}
+use Rattle.world_core.specs.declared.step.Step.{Step}
+use Rattle.world_core.specs.declared.step.Step.TheVariants.{Flush}
 use Rattle.world_core.specs.declared.output.Output.{Output}
 use Rattle.world_core.specs.declared.output.Output.TheVariants.{Rotated as OutputRotated, Shed as OutputShed}
 use Rattle.world_core.specs.declared.output.Output.TheVariants.{Taken as OutputTaken}
+use Rattle.world_core.proofs.AcknowledgedLines.{all_at}
 use Rattle.world_core.proofs.EventLists.{did_more, did_none, did_one, did_then, each_more, each_split, failed_before}
 use Rattle.world_core.proofs.EventLists.{failed_next, failed_one, failed_then}
 use Rattle.world_core.proofs.IntakeSees.{mark_is}
@@ -73,29 +74,77 @@ note_not tape (inl broken) = absurd (let no = broken.0 in cc)
 note_not tape (inr (inl full)) = absurd (let no = full.0 in cc)
 note_not tape (inr (inr memory)) = absurd (let no = memory.0 in cc)
 
+-- if a failing disk refuses the event, it is at this tape
+abbrev pub FailsOnlyAt : Option ℕ → Event → Type 0
+FailsOnlyAt rank event = (mid later : Past) → Refuses event mid (Tape Disk) later → calls_disk event ≡ Some rank
+
+pub fails_there : (rank : Option ℕ) (past later : Past) (events : List Event) (fault : Fault)
+    → AllByRecursion (FailsOnlyAt rank) events → fault ≡ Tape Disk → (fails : Fails past events fault later)
+    → calls_disk fails.event ≡ Some rank
+fails_there rank past later events fault only disk fails =
+    all_at (FailsOnlyAt rank) events fails.count fails.event only fails.here fails.mid later
+    (subst (λ (f : Fault). Refuses fails.event fails.mid f later) disk fails.refused)
+
 -- of a seal, only the flush of the intake's tape is
-pub seal_at : (past later : Past) (number : ℕ) (fault : Fault) → fault ≡ Tape Disk
-    → (fails : Fails past (seal_events number) fault later)
-    → calls_disk fails.event ≡ Some None
-seal_at past later number fault is fails = at fails.count fails.event fails.mid fails.here fails.refused
-  where
-    at : (count : ℕ) (e : Event) (mid : Past) → slice_get (seal_events number) count ≡ Some e
-        → Refuses e mid fault later
-        → calls_disk e ≡ Some None
-    at zero e mid here refused =
-        let same : Sees number ≡ e = cc in
-        let seen = subst (λ (x : Event). Refuses x mid fault later) (sym same) refused in
-        absurd (note_not mid.intake (subst (RefusesNote mid.intake) is seen.refused.1))
-    at (suc zero) e mid here refused =
-        let same : Acknowledges ≡ e = cc in
-        ap calls_disk (sym same)
-    at (suc (suc count)) e mid here refused = absurd cc
+pub seal_only : (number : ℕ) → AllByRecursion (FailsOnlyAt None) (seal_events number)
+seal_only number = (
+  (λ mid later refused. absurd (note_not mid.intake refused.refused.1)),
+  ((λ mid later refused. refl), tt),
+)
+
+-- the plan of a flush
+abbrev flush_plan : Past → ℕ → Plan
+flush_plan past number =
+    planned (begun_at past) (each_rank Parts (length (begun_at past).peers) ++ seal_events number) seal_view
+
+is_flush : (past : Past) (number : ℕ) → number ≡ past.last → IsPlan Flush past (flush_plan past number)
+is_flush past number is =
+    ap (λ (events : List Event). planned (begun_at past) events seal_view) (flush_is past number is)
+
+-- ---- the plan of a step
 
 module _ {D : Type 0} {g : Ghosts D} where
-  -- if a disk failed, it was at the intake's tape
-  record SealFails (past : Past) (events : List Event) (fault : Fault) (stations : Stations D g) : Type 0 where
-    failed : Failed past events fault stations
-    at : fault ≡ Tape Disk → calls_disk failed.fails.event ≡ Some None
+  pub took_by : (step : Step) (past begun : Past) (events : List Event) (tells : Past → List View)
+      (outputs : List Output) (stations : Stations D g)
+      → IsPlan step past (planned begun events tells) → (did : Did begun events stations)
+      → map view_of outputs ≡ tells did.later → TookTapes step past outputs stations
+  took_by step past begun events tells outputs stations is did said = record {
+    later = did.later;
+    takes = record {
+      plan = planned begun events tells;
+      is_plan = is;
+      mid = did.later;
+      does = did.does;
+      outputs_are = said;
+      later_is = refl;
+    };
+    stands = did.stands;
+  }
+
+  abbrev pub failed_by : (step : Step) (past : Past) (plan : Plan) (fault : Fault) (stations : Stations D g)
+      → IsPlan step past plan → Failed plan.begun plan.events fault stations → TookNot step past fault stations
+  failed_by step past plan fault stations is failed = record {
+    later = failed.later;
+    refuses = inr (inl (record { plan = plan; is_plan = is; fails = failed.fails }));
+    stands = failed.stands;
+  }
+
+  abbrev pub barred_by : (step : Step) (past : Past) (fault : Fault) (stations : Stations D g)
+      → IsBarred step past fault → Stands stations past → TookNot step past fault stations
+  barred_by step past fault stations barred stands =
+      record { later = past; refuses = inl (barred, refl); stands = stands }
+
+  -- if a disk failed, it was at the tape of the halt
+  pub halted_by : (step : Step) (past : Past) (plan : Plan) (halt : Halt) (stations : Stations D g)
+      → IsPlan step past plan → (failed : Failed plan.begun plan.events halt.fault stations)
+      → (halt.fault ≡ Tape Disk → calls_disk failed.fails.event ≡ Some halt.rank) → HaltedAs step past halt stations
+  halted_by step past plan halt stations is failed at = record {
+    refused = failed_by step past plan halt.fault stations is failed;
+    disk = λ disk.
+        record { failed = record { plan = plan; is_plan = is; fails = failed.fails }; at = at disk };
+  }
+
+  -- ---- a flush
 
   pub parted_none : (past : Past) (stations : Stations D g) → Stands stations past → PartedEach past 0 stations
   parted_none past stations stands =
@@ -163,106 +212,50 @@ module _ {D : Type 0} {g : Ghosts D} where
         failed_then past (Sees number ∷ []) (Acknowledges ∷ []) fault old new (did_one past (Sees number) old one)
         (failed_one one.later Acknowledges fault new two)
 
-  pub unready : (past : Past) (stations : Stations D g) (fault : Fault) → fault ≡ NotFlushed
-      → ((number : ℕ) → IsSealable past number → ⊥)
-      → Stands stations past → TookNot RefusesSeal past fault stations
-  unready past stations fault outputs none stands =
-      record { later = past; refuses = inl (outputs, none, refl); stands = stands }
-
-  -- the mark that is reported is that of the intake's tape
-  marked : (past : Past) (stations : Stations D g) (mark : ℕ) (outputs : List Output) → Stands stations past
-      → mark ≡ (ledger_of stations.intake).mark
-      → outputs ≡ OutputTaken mark ∷ [] → map view_of outputs ≡ SaidTaken (mark_at past.intake) ∷ []
-  marked past stations mark outputs stands is tells =
+  -- what a seal reports, and a flush
+  pub seal_tells : (past : Past) (mark : ℕ) (outputs : List Output) (stations : Stations D g)
+      → Stands stations past → mark ≡ (ledger_of stations.intake).mark → outputs ≡ OutputTaken mark ∷ []
+      → map view_of outputs ≡ seal_view past
+  seal_tells past mark outputs stations stands is tells =
       ap (map view_of) tells ∙ ap (λ (m : ℕ). SaidTaken m ∷ []) (is ∙ mark_is past.intake stations.intake stands.intake)
 
-  pub seal_took : (past : Past) (number mark : ℕ) (outputs : List Output) (stations : Stations D g)
-      → IsSealable past number
-      → (did : Did past (seal_events number) stations) → mark ≡ (ledger_of stations.intake).mark
-      → outputs ≡ OutputTaken mark ∷ []
-      → Took TakesSeal past outputs stations
-  seal_took past number mark outputs stations sealable did is tells = record {
-    later = did.later;
-    takes = (number, sealable, did.does, marked did.later stations mark outputs did.stands is tells);
-    stands = did.stands;
-  }
-
-  pub seal_memory : (past : Past) (number : ℕ) (fault : Fault) (stations : Stations D g) → IsSealable past number
-      → fault ≡ NoMemory
-      → Stands stations past → TookNot RefusesSeal past fault stations
-  seal_memory past number fault stations sealable memory stands =
-      record { later = past; refuses = inr (number, sealable, inl (memory, refl)); stands = stands }
-
-  pub seal_failed : (past : Past) (number : ℕ) (fault : Fault) (stations : Stations D g) → IsSealable past number
-      → Failed past (seal_events number) fault stations → TookNot RefusesSeal past fault stations
-  seal_failed past number fault stations sealable failed =
-      record { later = failed.later; refuses = inr (number, sealable, inr failed.fails); stands = failed.stands }
-
-  -- ---- a flush
-
-  abbrev pub FlushHalted : Past → Halt → Stations D g → Type 0
-  FlushHalted past halt stations = HaltedAs RefusesFlushing (begun_at past) (flush_events past) past halt stations
+  -- ---- all are flushed, and the number is sealed
 
   pub flush_memory : (past : Past) (halt : Halt) (stations : Stations D g) → halt.fault ≡ NoMemory
-      → Stands stations past → FlushHalted past halt stations
-  flush_memory past halt stations memory stands =
-      record {
-        later = past;
-        refuses = inl (memory, refl);
-        stands = stands;
-        disk =
-            λ fails. absurd (let no = sym memory ∙ fails in cc);
-      }
-
-  flush_halted : (past : Past) (halt : Halt) (stations : Stations D g)
-      → FailedAt (begun_at past) (flush_events past) halt stations
-      → FlushHalted past halt stations
-  flush_halted past halt stations one = record {
-    later = one.failed.later;
-    refuses = inr one.failed.fails;
-    stands = one.failed.stands;
-    disk = λ is. record { fails = one.failed.fails; at = one.at };
+      → Stands stations past → HaltedAs Flush past halt stations
+  flush_memory past halt stations memory stands = record {
+    refused = barred_by Flush past halt.fault stations memory stands;
+    disk = λ fails. absurd (let no = sym memory ∙ fails in cc);
   }
 
   pub flush_failed_part : (past : Past) (halt : Halt) (stations : Stations D g)
       → FailedAt (begun_at past) (each_rank Parts (length (begun_at past).peers)) halt stations
-      → FlushHalted past halt stations
+      → HaltedAs Flush past halt stations
   flush_failed_part past halt stations one =
-      flush_halted past halt stations
-      (subst (λ (es : List Event). FailedAt (begun_at past) es halt stations) (flush_is past past.last refl) (record {
-        failed = failed_before (begun_at past) (each_rank Parts (length (begun_at past).peers))
-            (seal_events past.last) halt.fault stations one.failed;
-        at = one.at;
-      }))
+      halted_by Flush past (flush_plan past past.last) halt stations (is_flush past past.last refl)
+      (failed_before (begun_at past) (each_rank Parts (length (begun_at past).peers)) (seal_events past.last)
+      halt.fault stations one.failed) (λ disk. one.at)
 
   module _ (past : Past) (number : ℕ) (old new : Stations D g)
       (each : PartedEach (begun_at past) (length (begun_at past).peers) old) (is : number ≡ past.last) where
     pub flush_failed_seal : (fault : Fault) → Failed each.did.later (seal_events number) fault new
-        → FlushHalted past (record { rank = None; fault = fault }) new
+        → HaltedAs Flush past (record { rank = None; fault = fault }) new
     flush_failed_seal fault failed =
-        let parts = each_rank Parts (length (begun_at past).peers) in
-        let whole = failed_then (begun_at past) parts (seal_events number) fault old new each.did failed in
-        let all = subst (λ (es : List Event). SealFails (begun_at past) es fault new) (flush_is past number is)
-        (record { failed = whole; at = λ disk. seal_at each.did.later failed.later number fault disk failed.fails }) in
-        record {
-          later = all.failed.later;
-          refuses = inr all.failed.fails;
-          stands = all.failed.stands;
-          disk = λ disk. record { fails = all.failed.fails; at = all.at disk };
-        }
+        halted_by Flush past (flush_plan past number) (record { rank = None; fault = fault }) new
+        (is_flush past number is)
+        (failed_then (begun_at past) (each_rank Parts (length (begun_at past).peers)) (seal_events number) fault old
+        new each.did failed)
+        (λ disk. fails_there None each.did.later failed.later (seal_events number) fault (seal_only number) disk
+        failed.fails)
 
     pub flush_took : (mark : ℕ) (outputs : List Output) → Did each.did.later (seal_events number) new
         → mark ≡ (ledger_of new.intake).mark
-        → outputs ≡ OutputTaken mark ∷ [] → Took TakesFlush past outputs new
+        → outputs ≡ OutputTaken mark ∷ [] → TookTapes Flush past outputs new
     flush_took mark outputs did marks tells =
-        let whole = subst (λ (es : List Event). Did (begun_at past) es new) (flush_is past number is)
+        took_by Flush past (begun_at past) (each_rank Parts (length (begun_at past).peers) ++ seal_events number)
+        seal_view outputs new (is_flush past number is)
         (did_then (begun_at past) (each_rank Parts (length (begun_at past).peers)) (seal_events number) old new
-        each.did did) in
-        record {
-          later = whole.later;
-          takes = (whole.does, marked whole.later new mark outputs whole.stands marks tells);
-          stands = whole.stands;
-        }
+        each.did did) (seal_tells did.later mark outputs new did.stands marks tells)
 
   -- ---- the step of one peer
 
@@ -286,64 +279,3 @@ module _ {D : Type 0} {g : Ghosts D} where
       ∙ ap (λ n. cond (nat_lt (prefix_len (λ (peer : Peer D g). not (bytes_eq peer.conf.name name))
       stations.peers.items) n)
       (Some (prefix_len (λ (peer : Peer D g). not (bytes_eq peer.conf.name name)) stations.peers.items)) None) long
-
-  module _ (name : List ℕ) (past : Past) (fault : Fault) (stations : Stations D g) (outputs : fault ≡ NoPeer)
-      (none : rank_of past name ≡ None)
-      (stands : Stands stations past) where
-    pub part_absent : TookNot (RefusesPart name) past fault stations
-    part_absent = record { later = past; refuses = inl (outputs, none, refl); stands = stands }
-
-    pub shed_absent : TookNot (RefusesShed name) past fault stations
-    shed_absent = record { later = past; refuses = inl (outputs, none, refl); stands = stands }
-
-    pub rotate_absent : TookNot (RefusesRotation name) past fault stations
-    rotate_absent = record { later = past; refuses = inl (outputs, none, refl); stands = stands }
-
-  module _ (name : List ℕ) (past : Past) (rank : ℕ) (here : rank_of past name ≡ Some rank)
-      (stations : Stations D g) where
-    pub part_took : (outputs : List Output) → outputs ≡ [] → DidOne past (Parts rank) stations
-        → Took (TakesPart name) past outputs stations
-    part_took outputs none one =
-        let did = did_one past (Parts rank) stations one in
-        record { later = did.later; takes = (rank, here, did.does, ap (map view_of) none); stands = did.stands }
-
-    pub part_failed : (fault : Fault) → FailedOne past (Parts rank) fault stations
-        → TookNot (RefusesPart name) past fault stations
-    part_failed fault one =
-        let failed = failed_one past (Parts rank) fault stations one in
-        record { later = failed.later; refuses = inr (rank, here, failed.fails); stands = failed.stands }
-
-    pub shed_took : (outputs : List Output) (numbers : List ℕ) → map view_of outputs ≡ SaidShed name numbers ∷ []
-        → DidOne past (Sheds rank numbers) stations
-        → Took (TakesShed name) past outputs stations
-    shed_took outputs numbers is one =
-        let did = did_one past (Sheds rank numbers) stations one in
-        record { later = did.later; takes = (rank, numbers, here, did.does, is); stands = did.stands }
-
-    pub shed_failed : (fault : Fault) → FailedOne past (Sheds rank []) fault stations
-        → TookNot (RefusesShed name) past fault stations
-    shed_failed fault one =
-        let failed = failed_one past (Sheds rank []) fault stations one in
-        record { later = failed.later; refuses = inr (rank, here, inr failed.fails); stands = failed.stands }
-
-    pub shed_memory : (fault : Fault) → fault ≡ NoMemory → Stands stations past
-        → TookNot (RefusesShed name) past fault stations
-    shed_memory fault memory stands =
-        record { later = past; refuses = inr (rank, here, inl (memory, refl)); stands = stands }
-
-    pub rotate_took : (outputs : List Output) (generation : ℕ) → map view_of outputs ≡ SaidRotated name generation ∷ []
-        → DidOne past (Rotates rank generation) stations → Took (TakesRotate name) past outputs stations
-    rotate_took outputs generation is one =
-        let did = did_one past (Rotates rank generation) stations one in
-        record { later = did.later; takes = (rank, generation, here, did.does, is); stands = did.stands }
-
-    pub rotate_failed : (fault : Fault) → FailedOne past (Rotates rank 0) fault stations
-        → TookNot (RefusesRotation name) past fault stations
-    rotate_failed fault one =
-        let failed = failed_one past (Rotates rank 0) fault stations one in
-        record { later = failed.later; refuses = inr (rank, here, inr failed.fails); stands = failed.stands }
-
-    pub rotate_memory : (fault : Fault) → fault ≡ NoMemory → Stands stations past
-        → TookNot (RefusesRotation name) past fault stations
-    rotate_memory fault memory stands =
-        record { later = past; refuses = inr (rank, here, inl (memory, refl)); stands = stands }

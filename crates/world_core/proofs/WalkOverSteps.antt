@@ -7,28 +7,24 @@ use Rattle.world_core.specs.Past.{Life, Past, PeerPast, with_past, with_peer}
 use Rattle.world_core.specs.Events.{AllDo, Event, Opens, OpensIntake}
 use Rattle.world_core.specs.Runs.{Runs, Does, Refuses as RefusesAny, RefusesStep, RefusesTapes, RefusesWorld, Takes}
 use Rattle.world_core.specs.Runs.Runs.{Start as NoStep, Next as OneStep}
-use Rattle.world_core.specs.Steps.{RefusesFlushing, RefusesImport, RefusesLine, RefusesPart, RefusesRotation}
-use Rattle.world_core.specs.Steps.{RefusesSeal, RefusesShed}
+use Rattle.world_core.specs.Steps.{must_run}
 use Rattle.world_core.specs.Exchange.{FailsToBreak, FailsToHand, FailsToRead, FailsToSupply, FailsToTick, OnPair}
 use Rattle.world_core.specs.Exchange.{PairStep, RefusesConnect, RefusesOn, RefusesTick, TakesArticle, TakesBreak}
 use Rattle.world_core.specs.Exchange.{TakesBytes, TakesHand, TakesMoment, TicksEach, at_moment, fresh_conn}
 use Rattle.world_core.specs.Exchange.TicksEach.{Start as NoneTicked, Next as OneTicked}
-use Rattle.world_core.specs.Halts.{AtRest, Manner, RefusesRestart, RefusesStop, TakesStop, left}
+use Rattle.world_core.specs.Halts.{AtRest, GoesOn, Manner, RefusesStop, TakesStop, left}
 use Rattle.world_core.specs.Laws.{Comes}
 use Rattle.world_core.specs.Laws.Comes.{No_step, Step_taken, Step_refused}
 use Rattle.world_core.specs.Output.{View}
 use Rattle.world_core.specs.declared.fault.Fault.{Fault}
 use Rattle.world_core.specs.declared.step.Step.{Step}
-use Rattle.world_core.specs.declared.step.Step.TheVariants.{Line, Flush, Begin, Part, Seal, Connect, Hand, Bytes}
-use Rattle.world_core.specs.declared.step.Step.TheVariants.{Article, Break, Tick, Shed, Import, Rotate, Stop, Restart}
+use Rattle.world_core.specs.declared.step.Step.TheVariants.{Article, Break, Bytes, Connect, Hand, Stop, Tick}
 use Rattle.world_core.proofs.PairGoesOn.{Goes, Went, keeps_pair, went_article, went_break, went_bytes, went_hand}
 use Rattle.world_core.proofs.PairGoesOn.{went_moment, went_on, went_unbroken, went_unhanded, went_unread}
 use Rattle.world_core.proofs.PairGoesOn.{went_unsupplied, went_unticked}
 use Rattle.world_core.proofs.PeerInWorld.{PeerKeeps}
-use Rattle.world_core.proofs.WalkOverTapes.{Keeper, events_keep, flush_keeps, flush_refused, import_keeps}
-use Rattle.world_core.proofs.WalkOverTapes.{import_refused, line_keeps, line_refused, opens_keep, part_keeps}
-use Rattle.world_core.proofs.WalkOverTapes.{part_refused, restart_keeps, rotate_keeps, rotate_refused, seal_keeps}
-use Rattle.world_core.proofs.WalkOverTapes.{seal_refused, shed_keeps, shed_refused, strikes_keep, unreported_keeps}
+use Rattle.world_core.proofs.WalkOverTapes.{Keeper, events_keep, on_any, refuses_keep, strikes_keep, takes_keep}
+use Rattle.world_core.proofs.WalkOverTapes.{unreported_keeps}
 
 -- ---- what steps make
 
@@ -100,16 +96,6 @@ module _ (passage : Passage) where
 
   step_makes : (step : Step) (life : Life) (outputs : List View) (later : Life) → Does step life outputs later
       → MAKES step life later
-  step_makes (Line text) life outputs later (runs, (past, takes, changed)) =
-      on_past _ life later past (line_keeps tapes text.items life.past past outputs takes) changed
-  step_makes Flush life outputs later (runs, (past, takes, changed)) =
-      on_past _ life later past (flush_keeps tapes life.past past outputs takes) changed
-  step_makes Begin life outputs later (runs, (past, (said, is), changed)) =
-      on_past _ life later past (subst (tapes.KEEPS life.past) (sym is) (tapes.keeps_begun life.past)) changed
-  step_makes (Part name) life outputs later (runs, (past, takes, changed)) =
-      on_past _ life later past (part_keeps tapes name life.past past outputs takes) changed
-  step_makes Seal life outputs later (runs, (past, takes, changed)) =
-      on_past _ life later past (seal_keeps tapes life.past past outputs takes) changed
   step_makes (Connect name) life outputs later (runs, t) =
       connects _ life later (life.connected + 1) t.rank (ap (λ (l : Life). l.past) t.changed)
       (ap (λ (l : Life). l.conns) t.changed)
@@ -125,17 +111,11 @@ module _ (passage : Passage) where
       pair_makes TakesBreak (Break id) id (went_break (Break id) id) life outputs later t
   step_makes (Tick now) life outputs later (runs, takes) =
       moves now life later (ticks_make now (at_moment now life) _ outputs later takes)
-  step_makes (Shed name) life outputs later (runs, (past, takes, changed)) =
-      on_past _ life later past (shed_keeps tapes name life.past past outputs takes) changed
-  step_makes (Rotate name) life outputs later (runs, (past, takes, changed)) =
-      on_past _ life later past (rotate_keeps tapes name life.past past outputs takes) changed
-  step_makes (Import name text) life outputs later (runs, (past, takes, changed)) =
-      on_past _ life later past (import_keeps tapes name text.items life.past past outputs takes) changed
   step_makes (Stop peer call choice) life outputs later takes = stop_makes peer call choice _ life outputs later takes
-  step_makes Restart life outputs later t =
-      changes _ life later (subst (λ (l : Life). tapes.KEEPS life.past l.past) (sym t.changed)
-      (restart_keeps tapes on_opens on_intake keeps_left life.past t.past t.opens))
-      (ap (λ (l : Life). l.conns) t.changed)
+  step_makes step life outputs later (runs, (past, takes, changed)) =
+      changes step life later (subst (λ (l : Life). tapes.KEEPS life.past l.past) (sym changed)
+      (takes_keep tapes step (on_any tapes on_opens on_intake (must_run step)) life.past past outputs takes))
+      (ap (λ (l : Life). l.conns) changed)
 
   pub takes_make : (step : Step) (life : Life) (outputs : List View) (later : Life) → Takes step life outputs later
       → MAKES step life later
@@ -146,12 +126,19 @@ module _ (passage : Passage) where
 
   -- ---- a step that is refused
 
-  tapes_refused : (step : Step) (R : Past → Fault → Past → Type 0)
-      → ((past later : Past) (fault : Fault) → R past fault later → tapes.KEEPS past later)
-      → (life : Life) (fault : Fault) (later : Life) → RefusesTapes R life fault later → MAKES step life later
-  tapes_refused step R keeps life fault later (inl stopped) = same_life step life later stopped.2
-  tapes_refused step R keeps life fault later (inr (runs, (past, refuses, changed))) =
-      on_past step life later past (keeps life.past past fault refuses) changed
+  left_makes : (step : Step) (life : Life) (under_way : Past) (later : Life) → tapes.KEEPS life.past under_way
+      → GoesOn life under_way later → MAKES step life later
+  left_makes step life under_way later keeps (inl (runs, changed)) = on_past step life later under_way keeps changed
+  left_makes step life under_way later keeps (inr (stopped, changed)) =
+      on_past step life later (left AtRest under_way)
+      (tapes.joined life.past under_way (left AtRest under_way) keeps (keeps_left AtRest under_way)) changed
+
+  tapes_refused : (step : Step) (life : Life) (fault : Fault) (later : Life) → RefusesTapes step life fault later
+      → MAKES step life later
+  tapes_refused step life fault later (inl off) = same_life step life later off.2
+  tapes_refused step life fault later (inr (runs, (under_way, refuses, goes))) =
+      left_makes step life under_way later
+      (refuses_keep tapes step (on_any tapes on_opens on_intake (must_run step)) life.past under_way fault refuses) goes
 
   conn_refused : (R : PairStep Fault) (step : Step) (id : ℕ) → Goes step id R → (life : Life) (fault : Fault)
       (later : Life) → RefusesWorld (RefusesOn R id) life fault later → MAKES step life later
@@ -177,27 +164,8 @@ module _ (passage : Passage) where
   stop_refused peer zero step life fault later (why, same) = same_life step life later same
   stop_refused peer (suc calls) step life fault later (none, is, same) = same_life step life later same
 
-  restart_refused : (step : Step) (life : Life) (fault : Fault) (later : Life) → RefusesRestart life fault later
-      → MAKES step life later
-  restart_refused step life fault later (inl runs) = same_life step life later runs.2
-  restart_refused step life fault later (inr (stopped, (under_way, fails, changed))) =
-      on_past step life later (left AtRest under_way)
-      (tapes.joined life.past under_way (left AtRest under_way)
-      (opens_keep tapes on_opens on_intake keeps_left life.past under_way fault fails)
-      (keeps_left AtRest under_way)) changed
-
   step_refused : (step : Step) (life : Life) (fault : Fault) (later : Life) → RefusesAny step life fault later
       → MAKES step life later
-  step_refused (Line text) life fault later refuses =
-      tapes_refused _ (RefusesLine text.items) (line_refused tapes text.items) life fault later refuses
-  step_refused Flush life fault later refuses =
-      tapes_refused _ RefusesFlushing (flush_refused tapes) life fault later refuses
-  step_refused Begin life fault later refuses =
-      world_refused _ (λ (l : Life) (f : Fault) (m : Life). ⊥) life fault later (λ never. absurd never) refuses
-  step_refused (Part name) life fault later refuses =
-      tapes_refused _ (RefusesPart name) (part_refused tapes name) life fault later refuses
-  step_refused Seal life fault later refuses =
-      tapes_refused _ RefusesSeal (seal_refused tapes) life fault later refuses
   step_refused (Connect name) life fault later refuses =
       world_refused _ (RefusesConnect name) life fault later (λ is. same_life _ life later is.1) refuses
   step_refused (Hand id) life fault later refuses =
@@ -212,14 +180,8 @@ module _ (passage : Passage) where
       conn_refused FailsToBreak (Break id) id (went_unbroken (Break id) id) life fault later refuses
   step_refused (Tick now) life fault later refuses =
       world_refused _ (RefusesTick now) life fault later (tick_refused now life fault later) refuses
-  step_refused (Shed name) life fault later refuses =
-      tapes_refused _ (RefusesShed name) (shed_refused tapes name) life fault later refuses
-  step_refused (Rotate name) life fault later refuses =
-      tapes_refused _ (RefusesRotation name) (rotate_refused tapes name) life fault later refuses
-  step_refused (Import name text) life fault later refuses =
-      tapes_refused _ (RefusesImport name text.items) (import_refused tapes name text.items) life fault later refuses
   step_refused (Stop peer call choice) life fault later refuses = stop_refused peer call _ life fault later refuses
-  step_refused Restart life fault later refuses = restart_refused _ life fault later refuses
+  step_refused step life fault later refuses = tapes_refused step life fault later refuses
 
   pub refuses_make : (step : Step) (life : Life) (fault : Fault) (later : Life) → RefusesStep step life fault later
       → MAKES step life later

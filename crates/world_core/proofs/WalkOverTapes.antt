@@ -1,8 +1,9 @@
 -- One walk over events and steps on tapes: what events of some kind keep of all tapes, and what each refused event
 -- keeps, is also kept by the steps made of them, taken or refused, and by a stop that is met in one.
 use Rattle.std.proofs.Common.{◌≡◌, ◌⊎◌, ◌+◌, ℕ, zero, suc, Bool, true, false, Some, List, []}
-use Rattle.std.proofs.Common.{◌∷◌, length, refl, sym, ap, subst, inl, inr}
+use Rattle.std.proofs.Common.{◌∷◌, length, refl, sym, ap, ◌∙◌, subst, inl, inr}
 use Rattle.std.specs.Prelude.{if◌then◌else◌}
+use Rattle.std.specs.Global.{Vec}
 use Rattle.std.specs.List.{AllByRecursion, slice_get}
 use Rattle.world_core.specs.Past.{Armed, Life, Past, PeerPast, TapePast, with_intake, with_peer, with_tape}
 use Rattle.world_core.specs.Safe.{KeepsNotes}
@@ -10,17 +11,18 @@ use Rattle.world_core.specs.Events.{Acknowledges, AllDo, Claims, Closes, Does, E
 use Rattle.world_core.specs.Events.{OpensIntake, Owes, Parts, Refuses, Returns, Rotates, Sees, Settles, Sheds, Spills}
 use Rattle.world_core.specs.Events.{each_rank}
 use Rattle.world_core.specs.Events.AllDo.{Start, Next}
-use Rattle.world_core.specs.Halts.{AtRest, ByChoice, CallsDisks, FailsToOpen, Manner, Meets, Strikes, StrikesUnreported}
-use Rattle.world_core.specs.Halts.{halted, left, restart_events}
+use Rattle.world_core.specs.Halts.{AtRest, ByChoice, Manner, halted, left, restart_events}
 use Rattle.world_core.specs.Imports.{IsImport}
-use Rattle.world_core.specs.Steps.{Good, NotGood, Reading, RefusesFlushing, RefusesImport, RefusesLine, RefusesPart}
-use Rattle.world_core.specs.Steps.{RefusesRotation, RefusesSeal, RefusesShed, TakesFlush, TakesImport, TakesLine}
-use Rattle.world_core.specs.Steps.{TakesPart, TakesReading, TakesRotate, TakesSeal, TakesShed, begun_at, flush_events}
-use Rattle.world_core.specs.Steps.{is_named, owes_from, seal_events}
+use Rattle.world_core.specs.Runs.{Meets, Strikes, StrikesUnreported}
+use Rattle.world_core.specs.Steps.{FailsPlan, Good, IsPlan, NotGood, Plan, Reading, RefusesPlan, TakesPlan, begun_at}
+use Rattle.world_core.specs.Steps.{flush_events, is_named, must_run, owes_from, planned, reading_plan, seal_events}
 use Rattle.world_core.specs.Output.{View}
+use Rattle.recovery.specs.declared.fault.TapeFault.TheVariants.{Disk}
 use Rattle.world_core.specs.declared.fault.Fault.{Fault}
+use Rattle.world_core.specs.declared.fault.Fault.TheVariants.{Tape}
 use Rattle.world_core.specs.declared.step.Step.{Step}
-use Rattle.world_core.specs.declared.step.Step.TheVariants.{Flush, Import, Part, Restart, Rotate, Seal}
+use Rattle.world_core.specs.declared.step.Step.TheVariants.{Begin, Flush, Import, Line, Part, Restart, Rotate, Seal}
+use Rattle.world_core.specs.declared.step.Step.TheVariants.{Shed}
 use Rattle.world_core.proofs.ImportEvents.{all_import}
 use Rattle.world_core.proofs.MarksAndNotes.{all_weaker, both_all, first_all, prefix_all, last_all}
 use Rattle.world_core.proofs.SheddingIsSafe.{same_rotated}
@@ -94,17 +96,19 @@ OnTape (Opens rank) = ⊥
 OnTape OpensIntake = ⊥
 OnTape event = Unit {0}
 
-owes_step : (b : Bool) (x : Event) (xs : List Event) → OnTape x → AllByRecursion OnTape xs
-    → AllByRecursion OnTape (if b then x ∷ xs else xs)
-owes_step true x xs one all = (one, all)
-owes_step false x xs one all = all
+owes_step : (P : Event → Type 0) (b : Bool) (x : Event) (xs : List Event) → P x → AllByRecursion P xs
+    → AllByRecursion P (if b then x ∷ xs else xs)
+owes_step P true x xs one all = (one, all)
+owes_step P false x xs one all = all
 
-owes_on : (rank : ℕ) (token id : List ℕ) (named : List (List ℕ)) (peers : List PeerPast)
-    → AllByRecursion OnTape (owes_from rank token id named peers)
-owes_on rank token id named [] = tt
-owes_on rank token id named (peer ∷ peers) =
-    owes_step (is_named named peer) (Owes rank token id) (owes_from (rank + 1) token id named peers) tt
-    (owes_on (rank + 1) token id named peers)
+-- what holds of a line at any peer holds of all its events
+pub owes_all : (P : Event → Type 0) (token id : List ℕ) → ((rank : ℕ) → P (Owes rank token id))
+    → (rank : ℕ) (named : List (List ℕ)) (peers : List PeerPast)
+    → AllByRecursion P (owes_from rank token id named peers)
+owes_all P token id one rank named [] = tt
+owes_all P token id one rank named (peer ∷ peers) =
+    owes_step P (is_named named peer) (Owes rank token id) (owes_from (rank + 1) token id named peers) (one rank)
+    (owes_all P token id one (rank + 1) named peers)
 
 each_on : (P : Event → Type 0) (event : ℕ → Event) → ((rank : ℕ) → P (event rank)) → (n : ℕ)
     → AllByRecursion P (each_rank event n)
@@ -120,6 +124,62 @@ import_on : (name text : List ℕ) (past : Past) (events : List Event) → IsImp
 import_on name text past events is =
     subst (AllByRecursion OnTape) (sym is.events_are)
     (all_import OnTape is.rank tt tt (λ number token id. tt) _ _ is.lines)
+
+-- ---- plans
+
+-- an event of a restart
+abbrev pub IsOpening : Event → Type 0
+IsOpening (Opens rank) = Unit {0}
+IsOpening OpensIntake = Unit {0}
+IsOpening event = ⊥
+
+-- an event of a step that needs a world that runs, or that has stopped
+abbrev pub OnStep : Bool → Event → Type 0
+OnStep true event = OnTape event
+OnStep false event = IsOpening event
+
+-- A plan begins at the tapes before the step, or once their number is kept; and at the end the step leaves the peers
+-- alone.
+pub record Frame (step : Step) (past : Past) (plan : Plan) : Type 0 where
+  pub begins : (plan.begun ≡ past) ⊎ (plan.begun ≡ begun_at past)
+  pub on : AllByRecursion (OnStep (must_run step)) plan.events
+  pub ends : (later : Past) → (plan.ends later).peers ≡ later.peers
+
+-- a plan that begins at the tapes before the step
+framed : (step : Step) (past : Past) (plan : Plan) (events : List Event) (tells : Past → List View)
+    → plan ≡ planned past events tells → AllByRecursion (OnStep (must_run step)) events → Frame step past plan
+framed step past plan events tells is on =
+    subst (Frame step past) (sym is) (record { begins = inl refl; on = on; ends = λ later. refl })
+
+-- one that begins once their number is kept
+framed_begun : (step : Step) (past : Past) (plan : Plan) (events : List Event) (tells : Past → List View)
+    → plan ≡ planned (begun_at past) events tells → AllByRecursion (OnStep (must_run step)) events
+    → Frame step past plan
+framed_begun step past plan events tells is on =
+    subst (Frame step past) (sym is) (record { begins = inr refl; on = on; ends = λ later. refl })
+
+reading_frame : (text : Vec ℕ) (reading : Reading) (past : Past) → Frame (Line text) past (reading_plan reading past)
+reading_frame text (Good token id named) past =
+    record { begins = inl refl; on = owes_all OnTape token id (λ rank. tt) 0 named past.peers; ends = λ later. refl }
+reading_frame text (NotGood fault) past = record { begins = inl refl; on = tt; ends = λ later. refl }
+
+restart_on : (past : Past) → AllByRecursion IsOpening (restart_events past)
+restart_on past = both_all IsOpening (each_rank Opens (length past.peers)) (OpensIntake ∷ [])
+    (each_on IsOpening Opens (λ rank. tt) (length past.peers)) (tt, tt)
+
+pub frame : (step : Step) (past : Past) (plan : Plan) → IsPlan step past plan → Frame step past plan
+frame (Line text) past plan (fits, (reading, reads, is)) =
+    subst (Frame (Line text) past) (sym is) (reading_frame text reading past)
+frame Flush past plan is = framed_begun Flush past plan _ _ is (flush_on past)
+frame Begin past plan is = framed_begun Begin past plan _ _ is tt
+frame (Part name) past plan (rank, here, is) = framed (Part name) past plan _ _ is (tt, tt)
+frame Seal past plan (number, may, is) = framed Seal past plan _ _ is (tt, (tt, tt))
+frame (Shed name) past plan (rank, here, (numbers, is)) = framed (Shed name) past plan _ _ is (tt, tt)
+frame (Rotate name) past plan (rank, here, (generation, is)) = framed (Rotate name) past plan _ _ is (tt, tt)
+frame (Import name text) past plan (events, its, is) =
+    framed (Import name text) past plan _ _ is (import_on name text.items past events its)
+frame Restart past plan is = framed Restart past plan _ _ is (restart_on past)
+frame step past plan none = absurd none
 
 -- ---- what is kept
 
@@ -162,164 +222,66 @@ module _ (keeper : Keeper) where
       joined was fails.mid later (events_keep was fails.mid _ fails.prefix (first_all ON fails.count events on))
       (refused_keeps fails.event fails.mid later fault fails.refused)
 
-  tape_events : (was later : Past) (events : List Event) → AllDo was events later → AllByRecursion OnTape events
-      → KEEPS was later
-  tape_events was later events does on = events_keep was later events does (all_weaker OnTape ON on_tape events on)
-
-  tape_fails : (was later : Past) (events : List Event) (fault : Fault) → AllByRecursion OnTape events
-      → Fails was events fault later → KEEPS was later
-  tape_fails was later events fault on fails =
-      fails_keep was later events fault (all_weaker OnTape ON on_tape events on) fails
-
   -- ---- steps on tapes
 
-  reading_keeps : (reading : Reading) (past later : Past) (outputs : List View)
-      → TakesReading reading past outputs later
-      → KEEPS past later
-  reading_keeps (Good token id named) past later outputs (said, (mid, does, changed)) =
-      joined past mid later (tape_events past mid _ does (owes_on 0 token id named past.peers))
-      (alike mid later (ap (λ (p : Past). p.peers) changed))
-  reading_keeps (NotGood fault) past later outputs (said, changed) =
-      alike past later (ap (λ (p : Past). p.peers) changed)
+  begun_keeps : (past begun : Past) → (begun ≡ past) ⊎ (begun ≡ begun_at past) → KEEPS past begun
+  begun_keeps past begun (inl same) = same_keeps past begun same
+  begun_keeps past begun (inr same) = subst (KEEPS past) (sym same) (keeps_begun past)
 
-  pub line_keeps : (text : List ℕ) (past later : Past) (outputs : List View) → TakesLine text past outputs later
-      → KEEPS past later
-  line_keeps text past later outputs takes = reading_keeps takes.reading past later outputs takes.takes
+  module _ (step : Step) (on_step : (event : Event) → OnStep (must_run step) event → ON event) (past later : Past) where
+    plan_keeps : (plan : Plan) → IsPlan step past plan → KEEPS past plan.begun × AllByRecursion ON plan.events
+    plan_keeps plan is =
+        let f = frame step past plan is in
+        (begun_keeps past plan.begun f.begins, all_weaker (OnStep (must_run step)) ON on_step plan.events f.on)
 
-  pub line_refused : (text : List ℕ) (past later : Past) (fault : Fault) → RefusesLine text past fault later
-      → KEEPS past later
-  line_refused text past later fault (inl full) = same_keeps past later full.2
-  line_refused text past later fault (inr (inl memory)) = same_keeps past later memory.2
-  line_refused text past later fault (inr (inr (fits, (token, id, named, reads, fails)))) =
-      tape_fails past later _ fault (owes_on 0 token id named past.peers) fails
+    pub takes_keep : (outputs : List View) → TakesPlan step past outputs later → KEEPS past later
+    takes_keep outputs t =
+        let p = plan_keeps t.plan t.is_plan in
+        joined past t.mid later
+        (joined past t.plan.begun t.mid p.0 (events_keep t.plan.begun t.mid t.plan.events t.does p.1))
+        (alike t.mid later
+        (ap (λ (p : Past). p.peers) t.later_is ∙ (frame step past t.plan t.is_plan).ends t.mid))
 
-  pub part_keeps : (name : List ℕ) (past later : Past) (outputs : List View) → TakesPart name past outputs later
-      → KEEPS past later
-  part_keeps name past later outputs (rank, here, does, said) = tape_events past later _ does (tt, tt)
+    pub failed_keeps : (fault : Fault) → FailsPlan step past fault later → KEEPS past later
+    failed_keeps fault f =
+        let p = plan_keeps f.plan f.is_plan in
+        joined past f.plan.begun later p.0 (fails_keep f.plan.begun later f.plan.events fault p.1 f.fails)
 
-  pub part_refused : (name : List ℕ) (past later : Past) (fault : Fault) → RefusesPart name past fault later
-      → KEEPS past later
-  part_refused name past later fault (inl none) = same_keeps past later none.2
-  part_refused name past later fault (inr (rank, here, fails)) = tape_fails past later _ fault (tt, tt) fails
-
-  pub seal_keeps : (past later : Past) (outputs : List View) → TakesSeal past outputs later → KEEPS past later
-  seal_keeps past later outputs (number, may, does, said) = tape_events past later _ does (tt, (tt, tt))
-
-  pub seal_refused : (past later : Past) (fault : Fault) → RefusesSeal past fault later → KEEPS past later
-  seal_refused past later fault (inl none) = same_keeps past later none.2
-  seal_refused past later fault (inr (number, may, inl memory)) = same_keeps past later memory.1
-  seal_refused past later fault (inr (number, may, inr fails)) = tape_fails past later _ fault (tt, (tt, tt)) fails
-
-  pub flush_keeps : (past later : Past) (outputs : List View) → TakesFlush past outputs later → KEEPS past later
-  flush_keeps past later outputs (does, said) =
-      joined past (begun_at past) later (keeps_begun past) (tape_events (begun_at past) later _ does (flush_on past))
-
-  pub flush_refused : (past later : Past) (fault : Fault) → RefusesFlushing past fault later → KEEPS past later
-  flush_refused past later fault (inl memory) = same_keeps past later memory.1
-  flush_refused past later fault (inr fails) =
-      joined past (begun_at past) later (keeps_begun past)
-      (tape_fails (begun_at past) later _ fault (flush_on past) fails)
-
-  pub shed_keeps : (name : List ℕ) (past later : Past) (outputs : List View) → TakesShed name past outputs later
-      → KEEPS past later
-  shed_keeps name past later outputs (rank, numbers, here, does, said) = tape_events past later _ does (tt, tt)
-
-  pub shed_refused : (name : List ℕ) (past later : Past) (fault : Fault) → RefusesShed name past fault later
-      → KEEPS past later
-  shed_refused name past later fault (inl none) = same_keeps past later none.2
-  shed_refused name past later fault (inr (rank, here, inl memory)) = same_keeps past later memory.1
-  shed_refused name past later fault (inr (rank, here, inr fails)) = tape_fails past later _ fault (tt, tt) fails
-
-  pub rotate_keeps : (name : List ℕ) (past later : Past) (outputs : List View) → TakesRotate name past outputs later
-      → KEEPS past later
-  rotate_keeps name past later outputs (rank, generation, here, does, said) = tape_events past later _ does (tt, tt)
-
-  pub rotate_refused : (name : List ℕ) (past later : Past) (fault : Fault) → RefusesRotation name past fault later
-      → KEEPS past later
-  rotate_refused name past later fault (inl none) = same_keeps past later none.2
-  rotate_refused name past later fault (inr (rank, here, inl memory)) = same_keeps past later memory.1
-  rotate_refused name past later fault (inr (rank, here, inr fails)) = tape_fails past later _ fault (tt, tt) fails
-
-  pub import_keeps : (name text : List ℕ) (past later : Past) (outputs : List View)
-      → TakesImport name text past outputs later → KEEPS past later
-  import_keeps name text past later outputs (events, is, does, said) =
-      tape_events past later events does (import_on name text past events is)
-
-  pub import_refused : (name text : List ℕ) (past later : Past) (fault : Fault)
-      → RefusesImport name text past fault later → KEEPS past later
-  import_refused name text past later fault (inl none) = same_keeps past later none.2
-  import_refused name text past later fault (inr (rank, here, inl memory)) = same_keeps past later memory.1
-  import_refused name text past later fault (inr (rank, here, inr (events, is, fails))) =
-      tape_fails past later events fault (import_on name text past events is) fails
+    pub refuses_keep : (fault : Fault) → RefusesPlan step past fault later → KEEPS past later
+    refuses_keep fault (inl barred) = same_keeps past later barred.1
+    refuses_keep fault (inr (inl failed)) = failed_keeps fault failed
+    refuses_keep fault (inr (inr lacks)) =
+        let p = plan_keeps lacks.plan lacks.is_plan in
+        joined past lacks.plan.begun later p.0
+        (events_keep lacks.plan.begun later _ lacks.does (first_all ON lacks.count lacks.plan.events p.1))
 
   -- ---- stops and restarts
 
+  module _ (on_opens : (rank : ℕ) → ON (Opens rank)) (on_intake : ON OpensIntake) where
+    pub on_any : (runs : Bool) (event : Event) → OnStep runs event → ON event
+    on_any true event on = on_tape event on
+    on_any false (Opens rank) on = on_opens rank
+    on_any false OpensIntake on = on_intake
+    on_any false event on = absurd on
+
   module _ (on_opens : (rank : ℕ) → ON (Opens rank)) (on_intake : ON OpensIntake)
       (keeps_left : (manner : Manner) (past : Past) → KEEPS past (left manner past)) where
-    restart_on : (past : Past) → AllByRecursion ON (restart_events past)
-    restart_on past = both_all ON (each_rank Opens (length past.peers)) (OpensIntake ∷ [])
-        (each_on ON Opens on_opens (length past.peers)) (on_intake, tt)
-
-    pub restart_keeps : (past later : Past) → AllDo past (restart_events past) later → KEEPS past later
-    restart_keeps past later does = events_keep past later _ does (restart_on past)
-
-    pub opens_keep : (past later : Past) (fault : Fault) → FailsToOpen past fault later → KEEPS past later
-    opens_keep past later fault (inl fails) = fails_keep past later _ fault (restart_on past) fails
-    opens_keep past later fault (inr (memory, (count, does))) =
-        events_keep past later _ does (first_all ON count _ (restart_on past))
-
-    calls_at : (past begun : Past) (events all : List Event) → begun ≡ past → events ≡ all
-        → AllByRecursion ON all → KEEPS past begun × AllByRecursion ON events
-    calls_at past begun events all same is on = (same_keeps past begun same, subst (AllByRecursion ON) (sym is) on)
-
-    tape_calls : (past begun : Past) (events all : List Event) → begun ≡ past → events ≡ all
-        → AllByRecursion OnTape all → KEEPS past begun × AllByRecursion ON events
-    tape_calls past begun events all same is on =
-        calls_at past begun events all same is (all_weaker OnTape ON on_tape all on)
-
-    calls_keep : (step : Step) (life : Life) (begun : Past) (events : List Event) → CallsDisks step life begun events
-        → KEEPS life.past begun × AllByRecursion ON events
-    calls_keep Flush life begun events (runs, is, its) = (
-      subst (KEEPS life.past) (sym is) (keeps_begun life.past),
-      subst (AllByRecursion ON) (sym its) (all_weaker OnTape ON on_tape (flush_events life.past) (flush_on life.past)),
-    )
-    calls_keep (Part name) life begun events (runs, is, (rank, here, its)) =
-        tape_calls life.past begun events (Parts rank ∷ []) is its (tt, tt)
-    calls_keep Seal life begun events (runs, is, (number, may, its)) =
-        tape_calls life.past begun events (seal_events number) is its (tt, (tt, tt))
-    calls_keep (Rotate name) life begun events (runs, is, (rank, here, its)) =
-        tape_calls life.past begun events (Rotates rank 0 ∷ []) is its (tt, tt)
-    calls_keep (Import name text) life begun events (runs, is, its) =
-        tape_calls life.past begun events events is refl (import_on name text.items life.past events its)
-    calls_keep Restart life begun events (runs, is, its) =
-        calls_at life.past begun events (restart_events life.past) is its (restart_on life.past)
-    calls_keep step life begun events calls = absurd calls
-
-    -- what the tapes were when a stop was met
-    meets_keeps : (step : Step) (life : Life) (stop : Armed) (under_way : Past) → Meets step life stop under_way
-        → KEEPS life.past under_way
-    meets_keeps step life stop under_way meets =
-        let calls = calls_keep step life meets.begun meets.events meets.calls in
-        joined life.past meets.mid under_way
-        (joined life.past meets.begun meets.mid calls.0
-        (events_keep meets.begun meets.mid _ meets.prefix (first_all ON meets.count meets.events calls.1)))
-        (refused_keeps meets.event meets.mid under_way _ meets.met)
-
-    halted_keeps : (manner : Manner) (under_way : Past) (life later : Life) → KEEPS life.past under_way
-        → later ≡ halted manner under_way life → KEEPS life.past later.past
-    halted_keeps manner under_way life later keeps changed =
+    halted_keeps : (step : Step) (manner : Manner) (stop : Armed) (under_way : Past) (life later : Life)
+        → Meets step life stop under_way → later ≡ halted manner under_way life → KEEPS life.past later.past
+    halted_keeps step manner stop under_way life later meets changed =
         subst (λ (l : Life). KEEPS life.past l.past) (sym changed)
-        (joined life.past under_way (left manner under_way) keeps (keeps_left manner under_way))
+        (joined life.past under_way (left manner under_way)
+        (failed_keeps step (on_any on_opens on_intake (must_run step)) life.past under_way (Tape Disk) meets.failed)
+        (keeps_left manner under_way))
 
     pub strikes_keep : (step : Step) (life : Life) (outputs : List View) (later : Life)
         → Strikes step life outputs later
         → KEEPS life.past later.past
     strikes_keep step life outputs later strikes =
-        halted_keeps (ByChoice strikes.stop.choice) strikes.under_way life later
-        (meets_keeps step life strikes.stop strikes.under_way strikes.meets) strikes.changed
+        halted_keeps step (ByChoice strikes.stop.choice) strikes.stop strikes.under_way life later strikes.meets
+        strikes.changed
 
     pub unreported_keeps : (step : Step) (life : Life) (fault : Fault) (later : Life)
         → StrikesUnreported step life fault later → KEEPS life.past later.past
     unreported_keeps step life fault later strikes =
-        halted_keeps AtRest strikes.under_way life later
-        (meets_keeps step life strikes.stop strikes.under_way strikes.meets) strikes.changed
+        halted_keeps step AtRest strikes.stop strikes.under_way life later strikes.meets strikes.changed

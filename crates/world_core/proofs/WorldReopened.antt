@@ -12,7 +12,8 @@ use Rattle.world_core.specs.Events.{AllDo, Event}
 use Rattle.world_core.specs.Events.AllDo.{Start}
 use Rattle.world_core.specs.Halting.{TapesStop}
 use Rattle.world_core.specs.Halts.{AtRest, left, left_peer, restart_events}
-use Rattle.world_core.specs.Opening.{AllOpen, HasNoneHeld, OpensNot}
+use Rattle.world_core.specs.Opening.{AllOpen, FailsAt, HasNoneHeld, OpensNot}
+use Rattle.world_core.specs.Steps.{FailsPlan, Plan, planned}
 use Rattle.world_core.specs.Stands.{DisksStand, PeerStands, StageStands, Stands, StoppedStands, WorldStands, armed_as}
 use Rattle.world_core.specs.Stepped.{opened_view}
 use Rattle.world_core.specs.Output.{Mark, mark_view, view_of}
@@ -102,6 +103,15 @@ stop_there world life peers intake stands is =
     let here : StageStands life (Stopped peers intake) = subst (λ (s : Stage). StageStands life s) is stands.stage in
     (here.0, record { peers = here.1; intake = here.2; begun = here.3; sound = stands.sound.past })
 
+-- the plan of a restart
+abbrev opening_plan : Past → Plan
+opening_plan past = planned past (restart_events past) (λ (later : Past). map mark_view later.peers)
+
+abbrev opening_failed : (past under_way : Past) (halt : Halt) → FailsAt past (restart_events past) halt under_way
+    → FailsPlan Restart past halt.fault under_way
+opening_failed past under_way halt fails =
+    record { plan = opening_plan past; is_plan = refl; fails = fails.fails }
+
 pub no_room : (world : World) (life : Life) (fault : Fault) (peers : Vec StoppedPeer Global) (intake : StopDisk
     × StopDisk) → WorldStands world life
     → world.stage ≡ Stopped peers intake → fault ≡ NoMemory → WasNotTaken Restart life fault world
@@ -109,7 +119,21 @@ no_room world life fault peers intake stands is memory =
     let stopped = (stop_there world life peers intake stands is).0 in
     record {
       later = with_past life (left AtRest life.past);
-      refuses = inl (inr (stopped, (life.past, inr (memory, (0, Start)), refl)));
+      refuses = inl (inr (
+        stopped,
+        (
+          life.past,
+          inr (inr (record {
+            restarts = refl;
+            memory = memory;
+            plan = opening_plan life.past;
+            is_plan = refl;
+            count = 0;
+            does = Start;
+          })),
+          inr (stopped, refl),
+        ),
+      ));
       stands = stands_again world life stands stopped;
     }
 
@@ -155,15 +179,19 @@ closed_again world life halt peers intake awaits stopped opens is = record {
   under_way = opens.under_way;
   now = with_past life (left AtRest opens.under_way);
   goes_on = inr (stopped, refl);
-  refuses = inr (stopped, (opens.under_way, inl opens.fails.fails, refl));
+  refuses = inr (
+    stopped,
+    (
+      opens.under_way,
+      inr (inl (opening_failed life.past opens.under_way halt opens.fails)),
+      inr (stopped, refl),
+    ),
+  );
   stands = stands_closed world life opens.under_way peers intake awaits stopped opens.stop is;
-  disk = λ fails. record {
-    begun = life.past;
-    events = restart_events life.past;
-    calls =
-        (stopped, refl, refl);
-    fails = opens.fails;
-  };
+  disk = λ fails. (
+    stopped,
+    record { failed = opening_failed life.past opens.under_way halt opens.fails; at = opens.fails.at },
+  );
 }
 
 -- ---- all are open
@@ -187,13 +215,21 @@ runs_again old new life stations conns outputs awaits stopped opens is none tell
     let free : life.conns ≡ [] = awaits.sound.conns.none stopped in
     record {
       later = later;
-      takes = inl (record {
-        stopped = stopped;
-        past = opens.later;
-        opens = opens.opens;
-        outputs_are = tells ∙ marks_said opens.later.peers stations.peers.items opens.stands.peers;
-        changed = refl;
-      });
+      takes = inl (
+        stopped,
+        (
+          opens.later,
+          record {
+            plan = opening_plan life.past;
+            is_plan = refl;
+            mid = opens.later;
+            does = opens.opens;
+            outputs_are = tells ∙ marks_said opens.later.peers stations.peers.items opens.stands.peers;
+            later_is = refl;
+          },
+          refl,
+        ),
+      );
       stands = record {
         stage = rw (is, none, free) (refl, opens.stands, tt);
         armed = ap (option_map armed_as) armed ∙ awaits.armed;
@@ -228,14 +264,15 @@ module _ {D : Type 0} {g : Ghosts D} where
           stopped,
           (
             opens.later,
-            inr (
-              refl,
-              (
-                length events,
-                subst (λ (es : List Event). AllDo life.past es opens.later) (sym (take-length events)) opens.opens,
-              ),
-            ),
-            refl,
+            inr (inr (record {
+              restarts = refl;
+              memory = refl;
+              plan = opening_plan life.past;
+              is_plan = refl;
+              count = length events;
+              does = subst (λ (es : List Event). AllDo life.past es opens.later) (sym (take-length events)) opens.opens;
+            })),
+            inr (stopped, refl),
           ),
         ));
         stands = stands_closed new life opens.later peers intake here stopped (stops opens.later opens.stands) is;

@@ -9,7 +9,7 @@ use Rattle.std.specs.List.{AllByRecursion, AllZip, slice_get}
 use Rattle.disk_model.specs.declared.choice.Choice.{Choice}
 use Rattle.world_core.specs.Past.{ConnPast, Life, Past, PeerPast, conn_at, with_past}
 use Rattle.world_core.specs.Halting.{AreLeftBy, IsLeftOf, TapesStop, with_disks}
-use Rattle.world_core.specs.Halts.{AtRest, ByChoice, Manner, halted, left, left_peer}
+use Rattle.world_core.specs.Halts.{AtRest, ByChoice, GoesOn, Manner, halted, left, left_peer}
 use Rattle.world_core.specs.Opening.{HasNoneHeld}
 use Rattle.world_core.specs.Sound.{AreTied, HasNumber, IsSound, IsSoundConn}
 use Rattle.world_core.specs.Stands.{StageStands, Stands, StoppedStands, WorldStands, armed_as}
@@ -18,7 +18,6 @@ use Rattle.world_core.specs.declared.stop.StopDisk.{StopDisk}
 use Rattle.world_core.specs.declared.world.Stage.{Stage}
 use Rattle.world_core.specs.declared.world.Stage.TheVariants.{Running, Stopped}
 use Rattle.world_core.specs.declared.world.World.{World}
-use Rattle.world_core.specs.Turn.{GoesOn}
 use Rattle.world_core.proofs.TapesStopped.{left_again, tapes_left}
 
 -- with no connections, no number may be held

@@ -1,23 +1,12 @@
--- Stops and restarts (docs/FORMATS.md): what a stop makes of a world, how a stop is met in a step, and how all is
--- opened again.
+-- Stops and restarts (docs/FORMATS.md): what a stop makes of a world, how a stop is armed, and how all is opened again.
 use Rattle.std.specs.Prelude.{◌≡◌, ◌⊎◌, ℕ, zero, suc, true, false, Option, None, Some, List, [], ◌∷◌, ◌++◌, length, map}
-use Rattle.std.specs.Prelude.{take, slice_get}
 use Rattle.disk_model.specs.declared.choice.Choice.{Choice}
 use Rattle.recovery.specs.Leaving.{left_by}
-use Rattle.recovery.specs.declared.fault.TapeFault.TheVariants.{Disk}
 use Rattle.world_core.specs.Past.{Armed, Life, Past, PeerPast, TapePast, rank_of, with_past}
-use Rattle.world_core.specs.Safe.{IsSafe}
-use Rattle.world_core.specs.Events.{AllDo, Event, Fails, Opens, OpensIntake, Parts, Refuses, Rotates, calls_disk}
-use Rattle.world_core.specs.Events.{each_rank}
-use Rattle.world_core.specs.Imports.{IsImport}
-use Rattle.world_core.specs.Steps.{IsSealable, begun_at, flush_events, seal_events}
-use Rattle.world_core.specs.Output.{View, Stopped, mark_view}
+use Rattle.world_core.specs.Events.{Event, Opens, OpensIntake, each_rank}
+use Rattle.world_core.specs.Output.{View, Stopped}
 use Rattle.world_core.specs.declared.fault.Fault.{Fault}
-use Rattle.world_core.specs.declared.fault.Fault.TheVariants.{NoMemory, NoPeer, Running, Stopped as HasStopped, Tape}
-use Rattle.world_core.specs.declared.step.Step.{Step}
-use Rattle.world_core.specs.declared.step.Step.TheVariants.{Line, Flush, Begin, Part, Seal, Connect, Hand, Bytes}
-use Rattle.world_core.specs.declared.step.Step.TheVariants.{Article, Break, Tick, Shed, Import}
-use Rattle.world_core.specs.declared.step.Step.TheVariants.{Rotate, Stop, Restart}
+use Rattle.world_core.specs.declared.fault.Fault.TheVariants.{NoMemory, NoPeer, Stopped as HasStopped}
 
 -- ---- what a stop makes of a world
 
@@ -57,6 +46,12 @@ halted manner under_way life = record {
   running = false;
 }
 
+-- What a refused step leaves of a world whose tapes were then these: it runs on, or stays stopped.
+abbrev pub GoesOn : Life → Past → Life → Type 0
+GoesOn life under_way now =
+    ((life.running ≡ true) × (now ≡ with_past life under_way))
+    ⊎ ((life.running ≡ false) × (now ≡ with_past life (left AtRest under_way)))
+
 -- ---- a stop is armed
 
 -- the tape that a stop names: a peer's, which has this rank, or the intake's
@@ -90,88 +85,3 @@ RefusesStop peer (suc calls) life fault later =
 -- the opening of each peer's tape by name, and then of the intake's
 abbrev pub restart_events : Past → List Event
 restart_events past = each_rank Opens (length past.peers) ++ OpensIntake ∷ []
-
-pub record TakesRestart (life : Life) (outputs : List View) (later : Life) : Type 0 where
-  pub stopped : life.running ≡ false
-  pub past : Past
-  pub opens : AllDo life.past (restart_events life.past) past
-  pub outputs_are : outputs ≡ map mark_view past.peers
-  pub changed : later ≡ record life { past = past; running = true }
-
--- an opening was refused, and those before it stand; or memory was refused, after some of them
-abbrev pub FailsToOpen : Past → Fault → Past → Type 0
-FailsToOpen past fault under_way =
-    Fails past (restart_events past) fault under_way
-    ⊎ ((fault ≡ NoMemory) × ((count : ℕ) × AllDo past (take count (restart_events past)) under_way))
-
--- Nothing has stopped; or an opening was refused, and all stays stopped, its disks as the openings left them. An armed
--- stop stays armed. No line's number is read while all is stopped.
-abbrev pub RefusesRestart : Life → Fault → Life → Type 0
-RefusesRestart life fault later =
-    ((fault ≡ Running) × (life.running ≡ true) × (later ≡ life))
-    ⊎ ((life.running ≡ false)
-    × ((under_way : Past) × FailsToOpen life.past fault under_way × (later ≡ with_past life (left AtRest under_way))))
-
--- ---- a stop is met
-
--- The events of the steps that call disks, and the tapes at which they begin. They are those that the step takes,
--- except for a rotation: its generation shows only if it is taken, and no refusal looks at the 0 here. No other step
--- meets a stop.
-abbrev pub CallsDisks : Step → Life → Past → List Event → Type 0
-CallsDisks (Line text) life begun events = ⊥
-CallsDisks Flush life begun events =
-    (life.running ≡ true) × (begun ≡ begun_at life.past) × (events ≡ flush_events life.past)
-CallsDisks Begin life begun events = ⊥
-CallsDisks (Part name) life begun events =
-    (life.running ≡ true) × (begun ≡ life.past)
-    × ((rank : ℕ) × (rank_of life.past name ≡ Some rank) × (events ≡ Parts rank ∷ []))
-CallsDisks Seal life begun events =
-    (life.running ≡ true) × (begun ≡ life.past)
-    × ((number : ℕ) × IsSealable life.past number × (events ≡ seal_events number))
-CallsDisks (Connect name) life begun events = ⊥
-CallsDisks (Hand id) life begun events = ⊥
-CallsDisks (Bytes id octets) life begun events = ⊥
-CallsDisks (Article id found) life begun events = ⊥
-CallsDisks (Break id) life begun events = ⊥
-CallsDisks (Tick now) life begun events = ⊥
-CallsDisks (Shed name) life begun events = ⊥
-CallsDisks (Rotate name) life begun events =
-    (life.running ≡ true) × (begun ≡ life.past)
-    × ((rank : ℕ) × (rank_of life.past name ≡ Some rank) × (events ≡ Rotates rank 0 ∷ []))
-CallsDisks (Import name text) life begun events =
-    (life.running ≡ true) × (begun ≡ life.past) × IsImport name text.items life.past events
-CallsDisks (Stop peer call choice) life begun events = ⊥
-CallsDisks Restart life begun events = (life.running ≡ false) × (begun ≡ life.past)
-    × (events ≡ restart_events life.past)
-
--- An armed stop was met: some of the step's events were taken, from the first on, and in the next, at the tape that the
--- stop names, a disk failed.
-pub record Meets (step : Step) (life : Life) (stop : Armed) (under_way : Past) : Type 0 where
-  pub armed : life.armed ≡ Some stop
-  pub begun : Past
-  pub events : List Event
-  pub calls : CallsDisks step life begun events
-  pub count : ℕ
-  pub mid : Past
-  pub event : Event
-  pub prefix : AllDo begun (take count events) mid
-  pub here : slice_get events count ≡ Some event
-  pub at_tape : calls_disk event ≡ Some stop.rank
-  pub met : Refuses event mid (Tape Disk) under_way
-  pub before : IsSafe under_way
-
--- each disk, also of tapes that were at rest, has what the stop's choice leaves, and the step reports only the stop
-pub record Strikes (step : Step) (life : Life) (outputs : List View) (later : Life) : Type 0 where
-  pub stop : Armed
-  pub under_way : Past
-  pub meets : Meets step life stop under_way
-  pub outputs_are : outputs ≡ Stopped ∷ []
-  pub changed : later ≡ halted (ByChoice stop.choice) under_way life
-
--- or, if there is no memory for what the choice leaves, all has stopped as at rest
-pub record StrikesUnreported (step : Step) (life : Life) (fault : Fault) (later : Life) : Type 0 where
-  pub stop : Armed
-  pub under_way : Past
-  pub meets : Meets step life stop under_way
-  pub refused : fault ≡ NoMemory
-  pub changed : later ≡ halted AtRest under_way life

@@ -1,37 +1,29 @@
 -- What a stop may leave at each moment within a step, in an administrator's words.
-use Rattle.std.specs.Prelude.{◌≡◌, ◌⊎◌, ℕ, true, Some, List, [], ◌∷◌, take, slice_get}
+use Rattle.std.specs.Prelude.{◌≡◌, ◌⊎◌, ℕ, Option, Some, List, take, slice_get}
 use Rattle.std.specs.List.{AllZip}
 use Rattle.disk_model.specs.declared.choice.Choice.{Choice}
 use Rattle.recovery.specs.Image.{Log}
 use Rattle.recovery.specs.Leaving.{IsPrefix, LedgersLeave, left_by}
-use Rattle.world_core.specs.Past.{Life, Past, PeerPast, rank_of}
-use Rattle.world_core.specs.Events.{AllDo, Does, Event, Refuses, Rotates}
-use Rattle.world_core.specs.Halts.{CallsDisks}
+use Rattle.world_core.specs.Past.{Life, Past, PeerPast}
+use Rattle.world_core.specs.Events.{AllDo, Does, Event, Refuses, calls_disk}
 use Rattle.world_core.specs.Laws.{Comes, StillOwes}
 use Rattle.world_core.specs.Runs.{RefusesStep, Takes}
 use Rattle.world_core.specs.Safe.{KeepsLines}
+use Rattle.world_core.specs.Steps.{IsPlan, Plan, must_run}
 use Rattle.world_core.specs.Output.{View}
 use Rattle.world_core.specs.declared.fault.Fault.{Fault}
 use Rattle.world_core.specs.declared.step.Step.{Step}
-use Rattle.world_core.specs.declared.step.Step.TheVariants.{Rotate}
 
--- the events of a step that calls disks, and the tapes at which they begin; a rotation may end in any generation
-abbrev pub MayMake : Step → Life → Past → List Event → Type 0
-MayMake (Rotate name) life begun events =
-    (life.running ≡ true) × (begun ≡ life.past)
-    × ((rank generation : ℕ) × (rank_of life.past name ≡ Some rank) × (events ≡ Rotates rank generation ∷ []))
-MayMake step life begun events = CallsDisks step life begun events
-
--- A step of this world is under way: some of its events were taken, from the first on, and left the first of these
+-- A step of this world is under way: some events of its plan were taken, from the first on, and left the first of these
 -- tapes; the next event makes the second of these tapes, whether it is taken or refused.
 pub record IsUnderWay (step : Step) (life : Life) (was now : Past) : Type 0 where
-  pub begun : Past
-  pub events : List Event
-  pub may : MayMake step life begun events
+  pub running : life.running ≡ must_run step
+  pub plan : Plan
+  pub is_plan : IsPlan step life.past plan
   pub count : ℕ
-  pub prefix : AllDo begun (take count events) was
+  pub prefix : AllDo plan.begun (take count plan.events) was
   pub event : Event
-  pub here : slice_get events count ≡ Some event
+  pub here : slice_get plan.events count ≡ Some event
   pub makes : Does event was now ⊎ ((fault : Fault) × Refuses event was fault now)
 
 -- At each moment from the first to the second of these, whatever a stop may leave of a peer's tape is the tape of a
@@ -68,10 +60,18 @@ Ended step life later =
 abbrev pub HasLog : Past → ℕ → Log → Type 0
 HasLog past rank log = (peer : PeerPast) × (slice_get past.peers rank ≡ Some peer) × (log ≡ peer.tape.log)
 
--- this had happened to them before the step, or at the end of an event of it
+-- this had happened to them by the end of an event of the step that calls disks
+pub record HadWithin (step : Step) (life : Life) (rank : ℕ) (log : Log) : Type 0 where
+  pub was : Past
+  pub now : Past
+  pub under_way : IsUnderWay step life was now
+  pub tape : Option ℕ
+  pub calls : calls_disk under_way.event ≡ Some tape
+  pub had : HasLog now rank log
+
+-- this had happened to them before the step, or by the end of such an event
 abbrev pub HadLog : Step → Life → ℕ → Log → Type 0
-HadLog step life rank log =
-    HasLog life.past rank log ⊎ ((was now : Past) × IsUnderWay step life was now × HasLog now rank log)
+HadLog step life rank log = HasLog life.past rank log ⊎ HadWithin step life rank log
 
 -- this is what a stop's choice leaves of what had happened to them
 pub record WasLeft (step : Step) (life : Life) (rank : ℕ) (log : Log) : Type 0 where

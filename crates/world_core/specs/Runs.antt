@@ -1,26 +1,28 @@
--- What steps make of a world, what they report, and why they are refused (docs/FORMATS.md); and runs of steps.
-use Rattle.std.specs.Prelude.{◌≡◌, ◌⊎◌, true, false, List, [], ◌∷◌, ◌++◌}
-use Rattle.world_core.specs.Past.{Life, Past, with_past}
+-- What steps make of a world, what they report, why they are refused, and how a stop is met in them (docs/FORMATS.md);
+-- and runs of steps.
+use Rattle.std.specs.Prelude.{◌≡◌, ◌⊎◌, true, false, not, Some, List, [], ◌∷◌, ◌++◌}
+use Rattle.recovery.specs.declared.fault.TapeFault.TheVariants.{Disk}
+use Rattle.world_core.specs.Past.{Armed, Life, Past}
 use Rattle.world_core.specs.Safe.{IsSafe}
-use Rattle.world_core.specs.Steps.{RefusesFlushing, RefusesImport, RefusesLine, RefusesPart, RefusesRotation}
-use Rattle.world_core.specs.Steps.{RefusesSeal, RefusesShed, TakesBegin, TakesFlush, TakesImport, TakesLine, TakesPart}
-use Rattle.world_core.specs.Steps.{TakesRotate, TakesSeal, TakesShed}
+use Rattle.world_core.specs.Events.{calls_disk}
+use Rattle.world_core.specs.Steps.{FailsPlan, RefusesPlan, TakesPlan, must_run, off_fault}
 use Rattle.world_core.specs.Exchange.{FailsToBreak, FailsToHand, FailsToRead, FailsToSupply, OnPair, RefusesConnect}
 use Rattle.world_core.specs.Exchange.{RefusesOn, RefusesTick, TakesArticle, TakesBreak, TakesBytes, TakesConnect}
 use Rattle.world_core.specs.Exchange.{TakesHand, TakesTick}
-use Rattle.world_core.specs.Halts.{RefusesRestart, RefusesStop, Strikes, StrikesUnreported, TakesRestart, TakesStop}
+use Rattle.world_core.specs.Halts.{AtRest, ByChoice, GoesOn, RefusesStop, TakesStop, halted}
 use Rattle.world_core.specs.Sound.{IsSoundLife}
-use Rattle.world_core.specs.Output.{View}
+use Rattle.world_core.specs.Output.{View, Stopped as SaidStopped}
 use Rattle.world_core.specs.declared.fault.Fault.{Fault}
-use Rattle.world_core.specs.declared.fault.Fault.TheVariants.{Stopped}
+use Rattle.world_core.specs.declared.fault.Fault.TheVariants.{NoMemory, Stopped, Tape}
 use Rattle.world_core.specs.declared.step.Step.{Step}
-use Rattle.world_core.specs.declared.step.Step.TheVariants.{Line, Flush, Begin, Part, Seal, Connect, Hand, Bytes}
-use Rattle.world_core.specs.declared.step.Step.TheVariants.{Article, Break, Tick, Shed, Import, Rotate, Stop, Restart}
+use Rattle.world_core.specs.declared.step.Step.TheVariants.{Article, Break, Bytes, Connect, Hand, Stop, Tick}
 
--- the world runs, and the step makes this of all tapes; all else stays
-abbrev pub OnTapes : (Past → List View → Past → Type 0) → Life → List View → Life → Type 0
-OnTapes T life outputs later =
-    (life.running ≡ true) × ((past : Past) × T life.past outputs past × (later ≡ with_past life past))
+-- ---- steps that are taken
+
+-- the world runs, or has stopped, as it must; the step makes this of its tapes, and it runs then
+abbrev pub TakesTapes : Step → Life → List View → Life → Type 0
+TakesTapes step life outputs later = (life.running ≡ must_run step)
+    × ((past : Past) × TakesPlan step life.past outputs past × (later ≡ record life { past = past; running = true }))
 
 -- the world runs, and the step makes this of it
 abbrev pub OnWorld : (Life → List View → Life → Type 0) → Life → List View → Life → Type 0
@@ -28,58 +30,69 @@ OnWorld T life outputs later = (life.running ≡ true) × T life outputs later
 
 -- what a step makes of a world, and reports, if no stop is met
 abbrev pub Does : Step → Life → List View → Life → Type 0
-Does (Line text) life outputs later = OnTapes (TakesLine text.items) life outputs later
-Does Flush life outputs later = OnTapes TakesFlush life outputs later
-Does Begin life outputs later = OnTapes TakesBegin life outputs later
-Does (Part name) life outputs later = OnTapes (TakesPart name) life outputs later
-Does Seal life outputs later = OnTapes TakesSeal life outputs later
 Does (Connect name) life outputs later = OnWorld (TakesConnect name) life outputs later
 Does (Hand id) life outputs later = OnWorld (OnPair TakesHand id) life outputs later
 Does (Bytes id octets) life outputs later = OnWorld (OnPair (TakesBytes octets.items) id) life outputs later
 Does (Article id found) life outputs later = OnWorld (OnPair (TakesArticle found) id) life outputs later
 Does (Break id) life outputs later = OnWorld (OnPair TakesBreak id) life outputs later
 Does (Tick now) life outputs later = OnWorld (TakesTick now) life outputs later
-Does (Shed name) life outputs later = OnTapes (TakesShed name) life outputs later
-Does (Rotate name) life outputs later = OnTapes (TakesRotate name) life outputs later
-Does (Import name text) life outputs later = OnTapes (TakesImport name text.items) life outputs later
 Does (Stop peer call choice) life outputs later = TakesStop peer call choice life outputs later
-Does Restart life outputs later = TakesRestart life outputs later
+Does step life outputs later = TakesTapes step life outputs later
 
--- what a step makes of a world, and reports: its own, or that of a stop that is met in it
-abbrev pub Takes : Step → Life → List View → Life → Type 0
-Takes step life outputs later = Does step life outputs later ⊎ Strikes step life outputs later
+-- ---- steps that are refused
 
--- ---- refusals
+-- the world does not run, or has not stopped, as it must, which is looked at first; or the step is refused on its tapes
+abbrev pub RefusesTapes : Step → Life → Fault → Life → Type 0
+RefusesTapes step life fault later =
+    ((fault ≡ off_fault step) × (life.running ≡ not (must_run step)) × (later ≡ life))
+    ⊎ ((life.running ≡ must_run step)
+    × ((under_way : Past) × RefusesPlan step life.past fault under_way × GoesOn life under_way later))
 
 -- all has stopped, which is looked at first; or the world runs, and the step is refused
 abbrev pub RefusesWorld : (Life → Fault → Life → Type 0) → Life → Fault → Life → Type 0
 RefusesWorld R life fault later =
     ((fault ≡ Stopped) × (life.running ≡ false) × (later ≡ life)) ⊎ ((life.running ≡ true) × R life fault later)
 
--- the same of a step on tapes
-abbrev pub RefusesTapes : (Past → Fault → Past → Type 0) → Life → Fault → Life → Type 0
-RefusesTapes R life fault later =
-    RefusesWorld (λ (l : Life) (f : Fault) (m : Life). (past : Past) × R l.past f past × (m ≡ with_past l past)) life
-    fault later
-
 -- a step is refused for this fault, and leaves this, if no stop is met
 abbrev pub Refuses : Step → Life → Fault → Life → Type 0
-Refuses (Line text) life fault later = RefusesTapes (RefusesLine text.items) life fault later
-Refuses Flush life fault later = RefusesTapes RefusesFlushing life fault later
-Refuses Begin life fault later = RefusesWorld (λ (l : Life) (f : Fault) (m : Life). ⊥) life fault later
-Refuses (Part name) life fault later = RefusesTapes (RefusesPart name) life fault later
-Refuses Seal life fault later = RefusesTapes RefusesSeal life fault later
 Refuses (Connect name) life fault later = RefusesWorld (RefusesConnect name) life fault later
 Refuses (Hand id) life fault later = RefusesWorld (RefusesOn FailsToHand id) life fault later
 Refuses (Bytes id octets) life fault later = RefusesWorld (RefusesOn (FailsToRead octets.items) id) life fault later
 Refuses (Article id found) life fault later = RefusesWorld (RefusesOn (FailsToSupply found) id) life fault later
 Refuses (Break id) life fault later = RefusesWorld (RefusesOn FailsToBreak id) life fault later
 Refuses (Tick now) life fault later = RefusesWorld (RefusesTick now) life fault later
-Refuses (Shed name) life fault later = RefusesTapes (RefusesShed name) life fault later
-Refuses (Rotate name) life fault later = RefusesTapes (RefusesRotation name) life fault later
-Refuses (Import name text) life fault later = RefusesTapes (RefusesImport name text.items) life fault later
 Refuses (Stop peer call choice) life fault later = RefusesStop peer call life fault later
-Refuses Restart life fault later = RefusesRestart life fault later
+Refuses step life fault later = RefusesTapes step life fault later
+
+-- ---- a stop is met
+
+-- An armed stop was met: some of the step's events were taken, from the first on, and in the next, at the tape that the
+-- stop names, a disk failed.
+pub record Meets (step : Step) (life : Life) (stop : Armed) (under_way : Past) : Type 0 where
+  pub armed : life.armed ≡ Some stop
+  pub running : life.running ≡ must_run step
+  pub failed : FailsPlan step life.past (Tape Disk) under_way
+  pub at_tape : calls_disk failed.fails.event ≡ Some stop.rank
+
+-- each disk, also of tapes that were at rest, has what the stop's choice leaves, and the step reports only the stop
+pub record Strikes (step : Step) (life : Life) (outputs : List View) (later : Life) : Type 0 where
+  pub stop : Armed
+  pub under_way : Past
+  pub meets : Meets step life stop under_way
+  pub outputs_are : outputs ≡ SaidStopped ∷ []
+  pub changed : later ≡ halted (ByChoice stop.choice) under_way life
+
+-- or, if there is no memory for what the choice leaves, all has stopped as at rest
+pub record StrikesUnreported (step : Step) (life : Life) (fault : Fault) (later : Life) : Type 0 where
+  pub stop : Armed
+  pub under_way : Past
+  pub meets : Meets step life stop under_way
+  pub refused : fault ≡ NoMemory
+  pub changed : later ≡ halted AtRest under_way life
+
+-- what a step makes of a world, and reports: its own, or that of a stop that is met in it
+abbrev pub Takes : Step → Life → List View → Life → Type 0
+Takes step life outputs later = Does step life outputs later ⊎ Strikes step life outputs later
 
 -- a step is refused: for its own reason, or for want of memory if a stop is met in it
 abbrev pub RefusesStep : Step → Life → Fault → Life → Type 0

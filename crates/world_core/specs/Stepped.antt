@@ -8,9 +8,8 @@ use Rattle.ledger_core.specs.State.{keys}
 use Rattle.peer_queue.specs.Words.{ledger_of}
 use Rattle.world_core.specs.Past.{Past, PeerPast}
 use Rattle.recovery.specs.declared.fault.TapeFault.TheVariants.{Disk}
-use Rattle.world_core.specs.Opening.{FailsAt}
 use Rattle.world_core.specs.Events.{AllDo, Event, Fails, Parts, calls_disk, each_rank}
-use Rattle.world_core.specs.Steps.{is_named, line_events, owed_there}
+use Rattle.world_core.specs.Steps.{FailsPlan, RefusesPlan, TakesPlan, is_named, line_events, owed_there}
 use Rattle.world_core.specs.Stands.{Stands}
 use Rattle.world_core.specs.Output.{Mark, View, view_of}
 use Rattle.world_core.specs.declared.fault.Fault.{Fault}
@@ -18,6 +17,7 @@ use Rattle.world_core.specs.declared.fault.Fault.TheVariants.{Tape}
 use Rattle.world_core.specs.declared.fault.Halt.{Halt}
 use Rattle.world_core.specs.declared.peer.Peer.{Peer}
 use Rattle.world_core.specs.declared.stations.Stations.{Stations}
+use Rattle.world_core.specs.declared.step.Step.{Step}
 use Rattle.world_core.specs.declared.output.OwedAt.{OwedAt}
 use Rattle.world_core.specs.declared.output.Output.{Output}
 
@@ -43,6 +43,11 @@ AreWithin count found = AllByRecursion (λ (entry : ℕ × List ℕ). entry.0 < 
 abbrev pub FoundAt : Past → List ℕ → Option ℕ → Type 0
 FoundAt past name None = AllByRecursion (λ (peer : PeerPast). bytes_eq name peer.conf.name ≡ false) past.peers
 FoundAt past name (Some rank) = (peer : PeerPast) × (slice_get past.peers rank ≡ Some peer) × (peer.conf.name ≡ name)
+
+-- a disk failed in one of the step's events, at the tape of the halt
+pub record DiskFails (step : Step) (past : Past) (halt : Halt) (under_way : Past) : Type 0 where
+  pub failed : FailsPlan step past halt.fault under_way
+  pub at : calls_disk failed.fails.event ≡ Some halt.rank
 
 module _ {D : Type 0} {g : Ghosts D} where
   -- what is reported of a peer whose tape was opened
@@ -84,25 +89,18 @@ module _ {D : Type 0} {g : Ghosts D} where
   -- ---- steps
 
   -- the step was taken, and reported this
-  pub record Took (T : Past → List View → Past → Type 0) (past : Past) (outputs : List Output) (stations : Stations D
-      g) :
-      Type 0 where
+  pub record TookTapes (step : Step) (past : Past) (outputs : List Output) (stations : Stations D g) : Type 0 where
     pub later : Past
-    pub takes : T past (map view_of outputs) later
+    pub takes : TakesPlan step past (map view_of outputs) later
     pub stands : Stands stations later
 
   -- the step was refused
-  pub record TookNot (R : Past → Fault → Past → Type 0) (past : Past) (fault : Fault) (stations : Stations D g) :
-      Type 0 where
+  pub record TookNot (step : Step) (past : Past) (fault : Fault) (stations : Stations D g) : Type 0 where
     pub later : Past
-    pub refuses : R past fault later
+    pub refuses : RefusesPlan step past fault later
     pub stands : Stands stations later
 
-  -- The step was refused; if a disk failed, it failed in one of these events, at the tape of the halt.
-  pub record HaltedAs (R : Past → Fault → Past
-      → Type 0) (begun : Past) (events : List Event) (past : Past) (halt : Halt) (stations : Stations D g) :
-      Type 0 where
-    pub later : Past
-    pub refuses : R past halt.fault later
-    pub stands : Stands stations later
-    pub disk : halt.fault ≡ Tape Disk → FailsAt begun events halt later
+  -- the step was refused; if a disk failed, it failed at the tape of the halt
+  pub record HaltedAs (step : Step) (past : Past) (halt : Halt) (stations : Stations D g) : Type 0 where
+    pub refused : TookNot step past halt.fault stations
+    pub disk : halt.fault ≡ Tape Disk → DiskFails step past halt refused.later

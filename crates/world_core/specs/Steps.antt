@@ -1,8 +1,8 @@
--- The steps on tapes (docs/FORMATS.md): each is a list of events, computed from the step and the tapes before it. Room
--- for what a step reports is made first, so that memory is refused before any of its events, or by one of them.
+-- The steps on tapes (docs/FORMATS.md). Each has a plan: a list of events, from the step and the tapes before it. Room
+-- for what a step reports is made first, so that memory is refused before any of its events, or by one of them; only a
+-- restart makes that room last.
 use Rattle.std.specs.Prelude.{◌≡◌, ◌≢◌, ◌⊎◌, ◌+◌, ◌<◌, ◌^◌, ℕ, true, false, if◌then◌else◌, None, Some, List, [], ◌∷◌}
-use Rattle.std.specs.Prelude.{◌++◌, length, map}
-use Rattle.std.specs.Prelude.{Bool}
+use Rattle.std.specs.Prelude.{◌++◌, Bool, length, map, take}
 use Rattle.std.specs.List.{AllByRecursion, list_any}
 use Rattle.std.specs.Str.{bytes_eq}
 use Rattle.funnel.specs.Line.{IsFunnelLine, HasFault}
@@ -12,10 +12,14 @@ use Rattle.peer_queue.specs.declared.limits.Owed.{Owed as Answer}
 use Rattle.world_core.specs.Past.{Past, PeerPast, mark_at, rank_of, with_last}
 use Rattle.world_core.specs.Events.{Acknowledges, AllDo, Event, Fails, Owes, Parts, Rotates, Sees, Sheds, each_rank}
 use Rattle.world_core.specs.Events.{import_mark_at, open_source, owed_as}
+use Rattle.world_core.specs.Halts.{restart_events}
 use Rattle.world_core.specs.Imports.{IsImport, count_new}
-use Rattle.world_core.specs.Output.{Bad, Imported, Owed, Rotated, View, Shed, Taken}
+use Rattle.world_core.specs.Output.{Bad, Imported, Owed, Rotated, View, Shed as SaidShed, Taken, mark_view}
 use Rattle.world_core.specs.declared.fault.Fault.{Fault}
-use Rattle.world_core.specs.declared.fault.Fault.TheVariants.{CountFull, NoMemory, NoPeer, NotFlushed}
+use Rattle.world_core.specs.declared.fault.Fault.TheVariants.{CountFull, NoMemory, NoPeer, NotFlushed, Running, Stopped}
+use Rattle.world_core.specs.declared.step.Step.{Step}
+use Rattle.world_core.specs.declared.step.Step.TheVariants.{Begin, Flush, Import, Line, Part, Restart, Rotate, Seal}
+use Rattle.world_core.specs.declared.step.Step.TheVariants.{Shed}
 
 -- ---- lists of events
 
@@ -74,100 +78,120 @@ abbrev pub IsReading : List ℕ → Reading → Type 0
 IsReading text (Good token id named) = IsFunnelLine text token id named
 IsReading text (NotGood fault) = HasFault text fault × (fault ≢ NoLineMemory)
 
-abbrev pub TakesReading : Reading → Past → List View → Past → Type 0
-TakesReading (Good token id named) past outputs later =
-    (outputs ≡ Owed (past.last + 1) (owed_there (past.last + 1) named past.peers) ∷ [])
-    × ((mid : Past) × AllDo past (line_events token id named past) mid × (later ≡ with_last mid (past.last + 1)))
-TakesReading (NotGood fault) past outputs later = (outputs ≡ Bad (past.last + 1) fault ∷ [])
-    × (later ≡ with_last past (past.last + 1))
+-- ---- plans
 
--- ---- what each step makes of all tapes, and reports
+-- A plan of a step: the tapes at which it begins, and its events, in order; then what the step makes of the tapes that
+-- the last event leaves, and what it reports of them.
+pub record Plan : Type 0 where
+  pub begun : Past
+  pub events : List Event
+  pub ends : Past → Past
+  pub tells : Past → List View
 
-pub record TakesLine (text : List ℕ) (past : Past) (outputs : List View) (later : Past) : Type 0 where
-  pub fits : past.last + 1 < 2 ^ 64
-  pub reading : Reading
-  pub reads : IsReading text reading
-  pub takes : TakesReading reading past outputs later
+-- these events, after which nothing else happens
+abbrev pub planned : Past → List Event → (Past → List View) → Plan
+planned begun events tells = record { begun = begun; events = events; ends = λ (past : Past). past; tells = tells }
 
-abbrev pub TakesBegin : Past → List View → Past → Type 0
-TakesBegin past outputs later = (outputs ≡ []) × (later ≡ begun_at past)
+-- the events of a line, after which it has its number
+abbrev pub numbered : Past → List Event → View → Plan
+numbered past events said = record {
+  begun = past;
+  events = events;
+  ends = λ (later : Past). with_last later (past.last + 1);
+  tells = λ (later : Past). said ∷ [];
+}
 
-abbrev pub TakesPart : List ℕ → Past → List View → Past → Type 0
-TakesPart name past outputs later =
-    (rank : ℕ) × (rank_of past name ≡ Some rank) × AllDo past (Parts rank ∷ []) later × (outputs ≡ [])
+-- the plan of a line that is read so
+abbrev pub reading_plan : Reading → Past → Plan
+reading_plan (Good token id named) past =
+    numbered past (line_events token id named past) (Owed (past.last + 1) (owed_there (past.last + 1) named past.peers))
+reading_plan (NotGood fault) past = numbered past [] (Bad (past.last + 1) fault)
 
-abbrev pub TakesSeal : Past → List View → Past → Type 0
-TakesSeal past outputs later =
-    (number : ℕ) × IsSealable past number × AllDo past (seal_events number) later
-    × (outputs ≡ Taken (mark_at later.intake) ∷ [])
+-- what a seal reports
+abbrev pub seal_view : Past → List View
+seal_view past = Taken (mark_at past.intake) ∷ []
 
-abbrev pub TakesFlush : Past → List View → Past → Type 0
-TakesFlush past outputs later = AllDo (begun_at past) (flush_events past) later
-    × (outputs ≡ Taken (mark_at later.intake) ∷ [])
+-- A plan of a step on tapes; no other step has one. Plans of one step differ only in the numbers that are shed, or in
+-- the generation in which a rotation ends: if the event is taken, it says which; and no refusal looks at it.
+abbrev pub IsPlan : Step → Past → Plan → Type 0
+IsPlan (Line text) past plan = (past.last + 1 < 2 ^ 64)
+    × ((reading : Reading) × IsReading text.items reading × (plan ≡ reading_plan reading past))
+IsPlan Flush past plan = plan ≡ planned (begun_at past) (flush_events past) seal_view
+IsPlan Begin past plan = plan ≡ planned (begun_at past) [] (λ (later : Past). [])
+IsPlan (Part name) past plan = (rank : ℕ) × (rank_of past name ≡ Some rank)
+    × (plan ≡ planned past (Parts rank ∷ []) (λ (later : Past). []))
+IsPlan Seal past plan = (number : ℕ) × IsSealable past number × (plan ≡ planned past (seal_events number) seal_view)
+IsPlan (Shed name) past plan = (rank : ℕ) × (rank_of past name ≡ Some rank)
+    × ((numbers : List ℕ)
+    × (plan ≡ planned past (Sheds rank numbers ∷ []) (λ (later : Past). SaidShed name numbers ∷ [])))
+IsPlan (Rotate name) past plan = (rank : ℕ) × (rank_of past name ≡ Some rank)
+    × ((generation : ℕ)
+    × (plan ≡ planned past (Rotates rank generation ∷ []) (λ (later : Past). Rotated name generation ∷ [])))
+IsPlan (Import name text) past plan = (events : List Event) × (is : IsImport name text.items past events)
+    × (plan ≡ planned past events (λ (later : Past).
+    Imported name (open_source is.peer) (count_new (import_mark_at is.peer) is.lines) ∷ []))
+IsPlan Restart past plan = plan ≡ planned past (restart_events past) (λ (later : Past). map mark_view later.peers)
+IsPlan step past plan = ⊥
 
-abbrev pub TakesShed : List ℕ → Past → List View → Past → Type 0
-TakesShed name past outputs later =
-    (rank : ℕ) × (numbers : List ℕ) × (rank_of past name ≡ Some rank) × AllDo past (Sheds rank numbers ∷ []) later
-    × (outputs ≡ Shed name numbers ∷ [])
+-- ---- why a step is refused before any of its events
 
-abbrev pub TakesRotate : List ℕ → Past → List View → Past → Type 0
-TakesRotate name past outputs later =
-    (rank generation : ℕ) × (rank_of past name ≡ Some rank) × AllDo past (Rotates rank generation ∷ []) later
-    × (outputs ≡ Rotated name generation ∷ [])
+-- no peer has the name; or one has it, and memory is refused for what its step reports
+abbrev pub IsBarredAt : List ℕ → Past → Fault → Type 0
+IsBarredAt name past fault = ((fault ≡ NoPeer) × (rank_of past name ≡ None))
+    ⊎ ((fault ≡ NoMemory) × ((rank : ℕ) × (rank_of past name ≡ Some rank)))
 
--- what is reported: the source under which the lines are owed, and how many of them are new
-abbrev pub TakesImport : (name text : List ℕ) → Past → List View → Past → Type 0
-TakesImport name text past outputs later =
-    (events : List Event) × (is : IsImport name text past events) × AllDo past events later
-    × (outputs ≡ Imported name (open_source is.peer) (count_new (import_mark_at is.peer) is.lines) ∷ [])
+-- No number is left for a line; no peer has the name; a number cannot be sealed; or memory is refused for what the step
+-- reports.
+abbrev pub IsBarred : Step → Past → Fault → Type 0
+IsBarred (Line text) past fault = ((fault ≡ CountFull) × (past.last + 1 ≡ 2 ^ 64))
+    ⊎ ((fault ≡ NoMemory) × (past.last + 1 < 2 ^ 64))
+IsBarred Flush past fault = fault ≡ NoMemory
+IsBarred (Part name) past fault = (fault ≡ NoPeer) × (rank_of past name ≡ None)
+IsBarred Seal past fault = ((fault ≡ NotFlushed) × ((number : ℕ) → IsSealable past number → ⊥))
+    ⊎ ((fault ≡ NoMemory) × ((number : ℕ) × IsSealable past number))
+IsBarred (Shed name) past fault = IsBarredAt name past fault
+IsBarred (Rotate name) past fault = IsBarredAt name past fault
+IsBarred (Import name text) past fault = IsBarredAt name past fault
+IsBarred step past fault = ⊥
 
--- ---- how each is refused
+-- a restart needs a world that has stopped, and any other step one that runs
+abbrev pub must_run : Step → Bool
+must_run Restart = false
+must_run step = true
 
--- No number is left for the line; or memory was refused before any event; or an event was refused, and those before it
--- stand.
-abbrev pub RefusesLine : List ℕ → Past → Fault → Past → Type 0
-RefusesLine text past fault later =
-    ((fault ≡ CountFull) × (past.last + 1 ≡ 2 ^ 64) × (later ≡ past))
-    ⊎ ((fault ≡ NoMemory) × (past.last + 1 < 2 ^ 64) × (later ≡ past))
-    ⊎ ((past.last + 1 < 2 ^ 64) × ((token id : List ℕ) × (named : List (List ℕ)) × IsFunnelLine text token id named
-    × Fails past (line_events token id named past) fault later))
+-- the fault of a step in any other world
+abbrev pub off_fault : Step → Fault
+off_fault Restart = Running
+off_fault step = Stopped
 
--- no peer has this name, or it has this rank and its step is refused
-abbrev pub RefusesNamed : List ℕ → Past → (ℕ → Type 0) → Fault → Past → Type 0
-RefusesNamed name past Fails fault later =
-    ((fault ≡ NoPeer) × (rank_of past name ≡ None) × (later ≡ past))
-    ⊎ ((rank : ℕ) × (rank_of past name ≡ Some rank) × Fails rank)
+-- ---- what each step makes of all tapes, and how it is refused
 
--- the same of a step that reports something, for which there may be no memory
-abbrev pub RefusesTelling : Type 0 → Past → Fault → Past → Type 0
-RefusesTelling Fails past fault later = ((fault ≡ NoMemory) × (later ≡ past)) ⊎ Fails
+-- all events of a plan were done, and the step reports what the plan says
+pub record TakesPlan (step : Step) (past : Past) (outputs : List View) (later : Past) : Type 0 where
+  pub plan : Plan
+  pub is_plan : IsPlan step past plan
+  pub mid : Past
+  pub does : AllDo plan.begun plan.events mid
+  pub outputs_are : outputs ≡ plan.tells mid
+  pub later_is : later ≡ plan.ends mid
 
-abbrev pub RefusesPart : List ℕ → Past → Fault → Past → Type 0
-RefusesPart name past fault later =
-    RefusesNamed name past (λ rank. Fails past (Parts rank ∷ []) fault later) fault later
+-- an event of a plan was refused, and those before it stand
+pub record FailsPlan (step : Step) (past : Past) (fault : Fault) (later : Past) : Type 0 where
+  pub plan : Plan
+  pub is_plan : IsPlan step past plan
+  pub fails : Fails plan.begun plan.events fault later
 
-abbrev pub RefusesSeal : Past → Fault → Past → Type 0
-RefusesSeal past fault later =
-    ((fault ≡ NotFlushed) × ((number : ℕ) → IsSealable past number → ⊥) × (later ≡ past))
-    ⊎ ((number : ℕ) × IsSealable past number
-    × RefusesTelling (Fails past (seal_events number) fault later) past fault later)
+-- or, in a restart, memory was refused after some of its events, which stand
+pub record LacksRoom (step : Step) (past : Past) (fault : Fault) (later : Past) : Type 0 where
+  pub restarts : must_run step ≡ false
+  pub memory : fault ≡ NoMemory
+  pub plan : Plan
+  pub is_plan : IsPlan step past plan
+  pub count : ℕ
+  pub does : AllDo plan.begun (take count plan.events) later
 
-abbrev pub RefusesFlushing : Past → Fault → Past → Type 0
-RefusesFlushing past fault later =
-    RefusesTelling (Fails (begun_at past) (flush_events past) fault later) past fault later
-
-abbrev pub RefusesShed : List ℕ → Past → Fault → Past → Type 0
-RefusesShed name past fault later =
-    RefusesNamed name past (λ rank. RefusesTelling (Fails past (Sheds rank [] ∷ []) fault later) past fault later)
-    fault later
-
-abbrev pub RefusesRotation : List ℕ → Past → Fault → Past → Type 0
-RefusesRotation name past fault later =
-    RefusesNamed name past (λ rank. RefusesTelling (Fails past (Rotates rank 0 ∷ []) fault later) past fault later)
-    fault later
-
-abbrev pub RefusesImport : (name text : List ℕ) → Past → Fault → Past → Type 0
-RefusesImport name text past fault later =
-    RefusesNamed name past (λ rank. RefusesTelling
-    ((events : List Event) × IsImport name text past events × Fails past events fault later) past fault later) fault
-    later
+-- the step was refused before any event, or at one, or after some
+abbrev pub RefusesPlan : Step → Past → Fault → Past → Type 0
+RefusesPlan step past fault later = (IsBarred step past fault × (later ≡ past))
+    ⊎ FailsPlan step past fault later
+    ⊎ LacksRoom step past fault later

@@ -2,13 +2,13 @@
 use Rattle.std.specs.Prelude.{◌≡◌, ◌⊎◌, ℕ, true, false, List, [], ◌∷◌, map, option_map}
 use Rattle.disk_model.specs.declared.choice.Choice.{Choice}
 use Rattle.recovery.specs.declared.fault.TapeFault.TheVariants.{Disk}
-use Rattle.world_core.specs.Past.{Life, Past, with_past}
-use Rattle.world_core.specs.Events.{Event}
-use Rattle.world_core.specs.Halts.{AtRest, ByChoice, CallsDisks, halted, left}
-use Rattle.world_core.specs.Opening.{FailsAt}
-use Rattle.world_core.specs.Runs.{Does, Refuses, RefusesStep, Takes}
+use Rattle.world_core.specs.Past.{Life, Past}
+use Rattle.world_core.specs.Halts.{AtRest, ByChoice, GoesOn, halted}
+use Rattle.world_core.specs.Runs.{Refuses, RefusesStep, Takes}
 use Rattle.world_core.specs.Sound.{IsSoundLife}
 use Rattle.world_core.specs.Stands.{WorldStands, armed_as}
+use Rattle.world_core.specs.Stepped.{DiskFails}
+use Rattle.world_core.specs.Steps.{must_run}
 use Rattle.world_core.specs.Output.{View, Stopped as SaidStopped, view_of}
 use Rattle.world_core.specs.declared.fault.Fault.{Fault}
 use Rattle.world_core.specs.declared.fault.Fault.TheVariants.{NoMemory, Stopped as HasStopped, Tape}
@@ -30,12 +30,6 @@ pub record Took (step : Step) (life : Life) (outputs : List Output) (world : Wor
 pub record WasNotTaken (step : Step) (life : Life) (fault : Fault) (world : World) : Type 0 where
   pub later : Life
   pub refuses : RefusesStep step life fault later
-  pub stands : WorldStands world later
-
--- the step was taken, and reported this; no stop was met
-pub record Did (step : Step) (life : Life) (outputs : List Output) (world : World) : Type 0 where
-  pub later : Life
-  pub does : Does step life (map view_of outputs) later
   pub stands : WorldStands world later
 
 -- the names of a world's peers, in order
@@ -67,19 +61,6 @@ RefusesRest life fault later =
 
 -- ---- a step that may meet a stop
 
--- What a refused step leaves of a world, whose tapes were then like this: it runs on, or stays stopped.
-abbrev pub GoesOn : Life → Past → Life → Type 0
-GoesOn life under_way now =
-    ((life.running ≡ true) × (now ≡ with_past life under_way))
-    ⊎ ((life.running ≡ false) × (now ≡ with_past life (left AtRest under_way)))
-
--- a disk failed in one of the step's events, at the tape of the halt
-pub record DiskFails (step : Step) (life : Life) (halt : Halt) (under_way : Past) : Type 0 where
-  pub begun : Past
-  pub events : List Event
-  pub calls : CallsDisks step life begun events
-  pub fails : FailsAt begun events halt under_way
-
 -- the step was refused, and no stop was looked for yet
 pub record WasHalted (step : Step) (life : Life) (halt : Halt) (world : World) : Type 0 where
   pub under_way : Past
@@ -87,7 +68,7 @@ pub record WasHalted (step : Step) (life : Life) (halt : Halt) (world : World) :
   pub goes_on : GoesOn life under_way now
   pub refuses : Refuses step life halt.fault now
   pub stands : WorldStands world now
-  pub disk : halt.fault ≡ Tape Disk → DiskFails step life halt under_way
+  pub disk : halt.fault ≡ Tape Disk → (life.running ≡ must_run step) × DiskFails step life.past halt under_way
 
 -- a stop was met, and reported
 pub record WasStruck (life : Life) (under_way : Past) (choice : Choice) (outputs : List Output) (world : World) :

@@ -165,7 +165,7 @@ impl Connection {
             connection: self.conn.id().0,
             handed,
         });
-        self.tell(peer, was_open, now, outputs)
+        self.report(peer, was_open, now, outputs)
     }
 
     // Claims the least candidate and offers it. If the connection doesn't take it, it is given back.
@@ -220,7 +220,7 @@ impl Connection {
     {
         let was_open = self.conn.closed().is_none();
         self.conn.input(octets)?;
-        self.tell(peer, was_open, now, outputs)
+        self.report(peer, was_open, now, outputs)
     }
 
     // Hands in what was found of the article that is wanted.
@@ -246,7 +246,7 @@ impl Connection {
         };
         let found = copy_of(found)?;
         match self.conn.article(key, found) {
-            Ok(()) => self.tell(peer, was_open, now, outputs),
+            Ok(()) => self.report(peer, was_open, now, outputs),
             Err((_, ArticleFault::NotNeeded)) => Err(Fault::NotNeeded),
             Err((_, ArticleFault::NoMemory)) => Err(Fault::NoMemory),
         }
@@ -270,12 +270,12 @@ impl Connection {
     {
         let was_open = self.conn.closed().is_none();
         self.conn.tick(now);
-        self.tell(peer, was_open, now, outputs)
+        self.report(peer, was_open, now, outputs)
     }
 
     // What follows each step: the outcomes go to the station; the output is reported, and counts as sent; the wanted
     // article is reported; and if the step closed the connection, so is the reason.
-    fn tell<D: Disk>(
+    fn report<D: Disk>(
         &mut self,
         peer: &mut Peer<D>,
         was_open: bool,
@@ -317,7 +317,7 @@ impl Connection {
     {
         let was_open = self.conn.closed().is_none();
         self.conn.broken();
-        self.tell(peer, was_open, now, outputs)
+        self.report(peer, was_open, now, outputs)
     }
 }
 

@@ -1,5 +1,6 @@
 // The import of backlog files: the good lines of a text, and what becomes of them at their peer.
 ghost use Rattle.std.specs.Prelude.{◌≡◌, ◌<◌, ◌≤◌, ℕ, [], map, IfErr, IfOk, OnOk, vec_len};
+ghost use Rattle.std.specs.Global.{Vec};
 ghost use Rattle.world_core.specs.Imports.{HasGood};
 ghost use Rattle.world_core.specs.Importing.{Gains, good_of, one_new};
 
@@ -28,8 +29,8 @@ impl<D: Disk> Stations<D> {
     ghost use Rattle.world_core.specs.Imports.{pending_behind, room_events, with_room};
     ghost use Rattle.world_core.specs.Past.{Past};
     ghost use Rattle.world_core.specs.Stands.{ClosedOne, DidOne, FailedOne, ImportedOne, Stands};
-    ghost use Rattle.world_core.specs.Stepped.{Did, Failed, Took, TookNot};
-    ghost use Rattle.world_core.specs.Steps.{RefusesImport, TakesImport};
+    ghost use Rattle.world_core.specs.Stepped.{Did, Failed, TookTapes, TookNot};
+    ghost use Rattle.world_core.specs.declared.step.Step.TheVariants.{Import};
 
     /// Imports a backlog file of this peer, which has this text: each good line is owed, their source is closed, and
     /// the peer is flushed. The peer is also flushed before each note for which there would be no room.
@@ -37,11 +38,13 @@ impl<D: Disk> Stations<D> {
     /// # Errors
     /// `NoPeer` if none has this name; `NoMemory`; the station's.
     pub(crate) fn import(&mut self, name: &PeerName, text: &[u8]) -> Result<Vec<Output>, Fault>
-        ensures ok { (past : Past) → Stands self.old past
-            → IfOk result
-            (λ outputs. Took (TakesImport name.now text.now) past outputs.items self.new) }
-        ensures err { (past : Past) → Stands self.old past → IfErr result
-            (λ fault. TookNot (RefusesImport name.now text.now) past fault self.new) }
+        ensures ok { (past : Past) (file : Vec ℕ) → file.items ≡ text.now
+            → Stands self.old past
+            → IfOk result (λ outputs.
+            TookTapes (Import name.now file) past outputs.items self.new) }
+        ensures err { (past : Past) (file : Vec ℕ) → file.items ≡ text.now
+            → Stands self.old past
+            → IfErr result (λ fault. TookNot (Import name.now file) past fault self.new) }
     {
         let Some(rank) = self.rank_of(name) else {
             return Err(Fault::NoPeer);

@@ -82,7 +82,7 @@ impl World {
             → AllOpen life.past stations
             → IfErr result (λ fault. WasNotTaken Restart life fault self.new) }
     {
-        let Ok(outputs) = tell_marks(self.alloc, &stations.peers) else {
+        let Ok(outputs) = mark_outputs(self.alloc, &stations.peers) else {
             let (peers, intake) = stations.halt(room);
             self.stage = Stage::Stopped(peers, intake);
             return Err(Fault::NoMemory);
@@ -234,7 +234,7 @@ pub(crate) fn rooms_for(alloc: Global, count: usize) -> Result<Rooms, AllocError
     Ok(Rooms { opened, stopped })
 }
 
-fn tell_marks(alloc: Global, peers: &[Peer<StopDisk>]) -> Result<Vec<Output>, AllocError>
+fn mark_outputs(alloc: Global, peers: &[Peer<StopDisk>]) -> Result<Vec<Output>, AllocError>
     ensures { IfOk result (λ outputs. map view_of outputs.items ≡ map opened_view peers.now) }
 {
     let mut outputs = Vec::new(alloc);

@@ -17,10 +17,11 @@ use std::alloc::AllocError;
 use std::mem;
 
 impl World {
-    ghost use Rattle.world_core.specs.Halts.{AtRest, ByChoice, IsTapeOf, RefusesStop, TakesStop, halted, left};
+    ghost use Rattle.world_core.specs.Halts.{AtRest, ByChoice, GoesOn, IsTapeOf, RefusesStop, TakesStop, halted};
+    ghost use Rattle.world_core.specs.Halts.{left};
     ghost use Rattle.world_core.specs.Past.{Life, Past, rank_of, with_past};
     ghost use Rattle.world_core.specs.Stands.{WorldStands};
-    ghost use Rattle.world_core.specs.Turn.{GoesOn, Made, Refused, RefusesRest, TakesRest, Took, WasHalted};
+    ghost use Rattle.world_core.specs.Turn.{Made, Refused, RefusesRest, TakesRest, Took, WasHalted};
     ghost use Rattle.world_core.specs.Turn.{WasNotTaken, WasStruck, WasStruckUnreported};
     ghost use Rattle.world_core.specs.declared.step.Step.{Step};
 

@@ -1,6 +1,7 @@
 // The steps on tapes: each is a list of events, and room for what it reports is made first.
 ghost use Rattle.std.specs.Prelude.{◌≡◌, ◌≢◌, ◌⊎◌, ◌+◌, ◌<◌, ◌≤◌, ◌^◌, ℕ, []};
 ghost use Rattle.std.specs.Prelude.{List, length, IfErr, IfOk, MatchOption, OnOk, vec_capacity, vec_len};
+ghost use Rattle.std.specs.Global.{Vec};
 ghost use Rattle.world_core.specs.declared.fault.Fault.TheVariants.{NoMemory};
 
 use crate::fault::{Fault, Halt};
@@ -15,23 +16,23 @@ use std::collections::BTreeMap;
 impl<D: Disk> Stations<D> {
     ghost use Rattle.world_core.specs.Past.{Past};
     ghost use Rattle.world_core.specs.Events.{Rotates, Sheds, each_rank, Parts};
-    ghost use Rattle.world_core.specs.Steps.{IsSealable, RefusesFlushing, RefusesLine, RefusesPart, RefusesRotation};
-    ghost use Rattle.world_core.specs.Steps.{begun_at, flush_events};
-    ghost use Rattle.world_core.specs.Steps.{RefusesSeal, RefusesShed, TakesFlush, TakesLine, TakesPart, TakesRotate};
-    ghost use Rattle.world_core.specs.Steps.{TakesSeal, TakesShed, line_events, seal_events};
+    ghost use Rattle.world_core.specs.Steps.{IsSealable, begun_at, line_events, seal_events};
     ghost use Rattle.world_core.specs.Stands.{DidOne, FailedOne, Stands};
     ghost use Rattle.world_core.specs.Stepped.{AreFound, AreWithin, Did, Failed, FoundAt, OwedLine, PartedEach};
-    ghost use Rattle.world_core.specs.Stepped.{FailedAt, HaltedAs, Took, TookNot};
+    ghost use Rattle.world_core.specs.Stepped.{FailedAt, HaltedAs, TookTapes, TookNot};
+    ghost use Rattle.world_core.specs.declared.step.Step.TheVariants.{Flush, Line, Part, Rotate, Seal, Shed};
 
     /// Takes a funnel line, without its LF: it is owed at each peer that it names, in byte order of their names.
     ///
     /// # Errors
     /// Tried in this order: `CountFull`; `NoMemory`; the stations'.
     pub(crate) fn line(&mut self, text: &[u8]) -> Result<Vec<Output>, Fault>
-        ensures ok { (past : Past) → Stands self.old past
-            → IfOk result (λ outputs. Took (TakesLine text.now) past outputs.items self.new) }
-        ensures err { (past : Past) → Stands self.old past
-            → IfErr result (λ fault. TookNot (RefusesLine text.now) past fault self.new) }
+        ensures ok { (past : Past) (line : Vec ℕ) → line.items ≡ text.now
+            → Stands self.old past
+            → IfOk result (λ outputs. TookTapes (Line line) past outputs.items self.new) }
+        ensures err { (past : Past) (line : Vec ℕ) → line.items ≡ text.now
+            → Stands self.old past
+            → IfErr result (λ fault. TookNot (Line line) past fault self.new) }
     {
         let Some(number) = self.last.checked_add(1) else {
             return Err(Fault::CountFull);
@@ -55,9 +56,9 @@ impl<D: Disk> Stations<D> {
     /// `NoPeer` if no peer has this name; the station's.
     pub(crate) fn part(&mut self, name: &PeerName) -> Result<Vec<Output>, Fault>
         ensures ok { (past : Past) → Stands self.old past
-            → IfOk result (λ outputs. Took (TakesPart name.now) past outputs.items self.new) }
+            → IfOk result (λ outputs. TookTapes (Part name.now) past outputs.items self.new) }
         ensures err { (past : Past) → Stands self.old past
-            → IfErr result (λ fault. TookNot (RefusesPart name.now) past fault self.new) }
+            → IfErr result (λ fault. TookNot (Part name.now) past fault self.new) }
     {
         let Some(rank) = self.rank_of(name) else {
             return Err(Fault::NoPeer);
@@ -72,9 +73,9 @@ impl<D: Disk> Stations<D> {
     /// `NotFlushed` if no number is kept, or some peer was not flushed since; `NoMemory`; the tape's.
     pub(crate) fn seal(&mut self) -> Result<Vec<Output>, Fault>
         ensures ok { (past : Past) → Stands self.old past
-            → IfOk result (λ outputs. Took TakesSeal past outputs.items self.new) }
+            → IfOk result (λ outputs. TookTapes Seal past outputs.items self.new) }
         ensures err { (past : Past) → Stands self.old past
-            → IfErr result (λ fault. TookNot RefusesSeal past fault self.new) }
+            → IfErr result (λ fault. TookNot Seal past fault self.new) }
     {
         let Some(number) = self.sealable() else {
             return Err(Fault::NotFlushed);
@@ -92,9 +93,9 @@ impl<D: Disk> Stations<D> {
     /// `NoMemory`; the stations' and the tape's.
     pub(crate) fn flush(&mut self) -> Result<Vec<Output>, Halt>
         ensures ok { (past : Past) → Stands self.old past
-            → IfOk result (λ outputs. Took TakesFlush past outputs.items self.new) }
-        ensures err { (past : Past) → Stands self.old past → IfErr result (λ halt.
-            HaltedAs RefusesFlushing (begun_at past) (flush_events past) past halt self.new) }
+            → IfOk result (λ outputs. TookTapes Flush past outputs.items self.new) }
+        ensures err { (past : Past) → Stands self.old past
+            → IfErr result (λ halt. HaltedAs Flush past halt self.new) }
     {
         let mut outputs = Vec::with_capacity(self.alloc, 1)?;
         self.begin();
@@ -113,9 +114,9 @@ impl<D: Disk> Stations<D> {
     /// `NoPeer` if no peer has this name; `NoMemory`; the station's.
     pub(crate) fn shed(&mut self, name: &PeerName) -> Result<Vec<Output>, Fault>
         ensures ok { (past : Past) → Stands self.old past
-            → IfOk result (λ outputs. Took (TakesShed name.now) past outputs.items self.new) }
+            → IfOk result (λ outputs. TookTapes (Shed name.now) past outputs.items self.new) }
         ensures err { (past : Past) → Stands self.old past
-            → IfErr result (λ fault. TookNot (RefusesShed name.now) past fault self.new) }
+            → IfErr result (λ fault. TookNot (Shed name.now) past fault self.new) }
     {
         let Some(rank) = self.rank_of(name) else {
             return Err(Fault::NoPeer);
@@ -133,9 +134,9 @@ impl<D: Disk> Stations<D> {
     /// `NoPeer` if no peer has this name; `NoMemory`; the station's.
     pub(crate) fn rotate(&mut self, name: &PeerName) -> Result<Vec<Output>, Fault>
         ensures ok { (past : Past) → Stands self.old past
-            → IfOk result (λ outputs. Took (TakesRotate name.now) past outputs.items self.new) }
+            → IfOk result (λ outputs. TookTapes (Rotate name.now) past outputs.items self.new) }
         ensures err { (past : Past) → Stands self.old past
-            → IfErr result (λ fault. TookNot (RefusesRotation name.now) past fault self.new) }
+            → IfErr result (λ fault. TookNot (Rotate name.now) past fault self.new) }
     {
         let Some(rank) = self.rank_of(name) else {
             return Err(Fault::NoPeer);

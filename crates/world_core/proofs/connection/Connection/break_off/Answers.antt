@@ -5,7 +5,7 @@ use Rattle.world_core.proofs.connection.Connection.break_off.Goals as goal
 
 pub returns-clause-ok : goal.returns-clause-ok
 returns-clause-ok g c = λ id conn past pair.
-    c.tell.ensures.ok id (broken_off past conn) past conn.transcript
+    c.report.ensures.ok id (broken_off past conn) past conn.transcript
     (pair_broken id conn past c.args.self.now _ c.args.peer.now pair c.broken.ensures.stands refl refl
     c.broken.ensures.same_id)
     (open_said past.conf conn c.args.self.now c.is_none-was_open.result c.closed.result pair.holds c.closed.ensures
@@ -13,6 +13,6 @@ returns-clause-ok g c = λ id conn past pair.
 
 pub returns-clause-err : goal.returns-clause-err
 returns-clause-err g c = λ id conn past pair.
-    c.tell.ensures.err id (broken_off past conn) past
+    c.report.ensures.err id (broken_off past conn) past
     (pair_broken id conn past c.args.self.now _ c.args.peer.now pair c.broken.ensures.stands refl refl
     c.broken.ensures.same_id)

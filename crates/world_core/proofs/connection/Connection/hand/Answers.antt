@@ -23,8 +23,8 @@ returns-clause-ok g c = λ id conn past pair.
     let was_so = open_over id c.args.now conn past c.in_ok-handed.handed _ _ over c.args.self.now
     c.is_none-was_open.result c.closed.result pair.holds
     c.closed.ensures c.is_none-was_open.ensures in
-    on_ok_map c.tell.result _ _
-    (c.tell.ensures.ok id (with_transcript conn over.transcript) over.later conn.transcript over.stand was_so)
+    on_ok_map c.report.result _ _
+    (c.report.ensures.ok id (with_transcript conn over.transcript) over.later conn.transcript over.stand was_so)
     (hand_on id c.args.now conn past c.in_ok-handed.handed _ _ over c.args.outputs.now.items _ _ c.id.result.0 _ _ _
     refl
     (c.push_reserved.ensures.items
@@ -34,5 +34,5 @@ returns-clause-ok g c = λ id conn past pair.
 pub returns-clause-err : goal.returns-clause-err
 returns-clause-err g c = λ id conn past pair.
     let over = c.in_ok-handed.ensures.ok id conn past pair in
-    if_err_map c.tell.result _ _ (c.tell.ensures.err id (with_transcript conn over.transcript) over.later over.stand)
+    if_err_map c.report.result _ _ (c.report.ensures.err id (with_transcript conn over.transcript) over.later over.stand)
     (λ fault is. hand_on_not id c.args.now conn past c.in_ok-handed.handed _ _ over fault _ _ is)

@@ -17,8 +17,8 @@ pub returns-clause-ok : goal.returns-clause-ok
 returns-clause-ok g c = λ id conn past pair.
     let so = pair_received id conn past c.args.self.now _ c.args.peer.now pair refl refl c.in_ok-input.ensures.same_id
     c.args.octets.now c.in_ok-input.ensures.ok in
-    on_ok_map c.tell.result _ _
-    (c.tell.ensures.ok id (record conn { unread = so.1; transcript = so.0 }) past conn.transcript
+    on_ok_map c.report.result _ _
+    (c.report.ensures.ok id (record conn { unread = so.1; transcript = so.0 }) past conn.transcript
     so.3
     (open_said past.conf conn c.args.self.now c.is_none-was_open.result c.closed.result pair.holds c.closed.ensures
     c.is_none-was_open.ensures))
@@ -33,6 +33,6 @@ pub returns-clause-err : goal.returns-clause-err
 returns-clause-err g c = λ id conn past pair.
     let so = pair_received id conn past c.args.self.now _ c.args.peer.now pair refl refl c.in_ok-input.ensures.same_id
     c.args.octets.now c.in_ok-input.ensures.ok in
-    if_err_map c.tell.result _ _
-    (c.tell.ensures.err id (record conn { unread = so.1; transcript = so.0 }) past so.3)
+    if_err_map c.report.result _ _
+    (c.report.ensures.err id (record conn { unread = so.1; transcript = so.0 }) past so.3)
     (λ fault. refused_by _ _ id _ _ (λ later_conn later follows. inr (so.0, so.1, so.2, follows)))

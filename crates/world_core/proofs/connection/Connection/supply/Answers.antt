@@ -44,7 +44,7 @@ returns-in-Ok-clause-ok g c = λ id conn past pair.
     let wanted = sym (c.need.ensures (options_of past.conf) conn.unread conn.transcript pair.holds) ∙ c.in-Some.is in
     let so = pair_handed id conn past c.args.self.now _ c.args.peer.now pair refl refl c.in-Ok.ensures.same_id
     c.in_ok-found.found c.in-Some.key c.in-Ok.ensures.ok in
-    on_ok_map c.tell.result _ _ (c.tell.ensures.ok id
+    on_ok_map c.report.result _ _ (c.report.ensures.ok id
     (with_transcript conn (after (options_of past.conf) conn.transcript (Handed c.in-Some.key so.0))) past
     conn.transcript so.2
     (open_said past.conf conn c.args.self.now c.is_none-was_open.result c.closed.result pair.holds c.closed.ensures
@@ -62,7 +62,7 @@ returns-in-Ok-clause-err g c = λ id conn past pair.
     let wanted = sym (c.need.ensures (options_of past.conf) conn.unread conn.transcript pair.holds) ∙ c.in-Some.is in
     let so = pair_handed id conn past c.args.self.now _ c.args.peer.now pair refl refl c.in-Ok.ensures.same_id
     c.in_ok-found.found c.in-Some.key c.in-Ok.ensures.ok in
-    if_err_map c.tell.result _ _ (c.tell.ensures.err id
+    if_err_map c.report.result _ _ (c.report.ensures.err id
     (with_transcript conn (after (options_of past.conf) conn.transcript (Handed c.in-Some.key so.0))) past so.2)
     (λ fault. refused_by _ _ id _ _ (λ later_conn later follows. inr (
       c.in-Some.key,

@@ -1,25 +1,18 @@
 use Rattle.std.proofs.Common.{refl}
-use Rattle.world_core.specs.Steps.{RefusesShed, TakesShed}
 use Rattle.world_core.specs.declared.step.Step.TheVariants.{Shed}
-use Rattle.world_core.proofs.HeldOverEvents.{steady}
 use Rattle.world_core.proofs.Results.{if_err_is}
 use Rattle.world_core.proofs.StepsOfWorlds.{took_not, took_tapes}
-use Rattle.world_core.proofs.WalkOverTapes.{shed_keeps, shed_refused}
 use Rattle.world_core.proofs.world.World.shed.Goals as goal
 
 pub returns-in_err-out-clause-err : goal.returns-in_err-out-clause-err
 returns-in_err-out-clause-err c = λ life stands.
-    let name = c.args.name.now in
     if_err_is c.from_residual.result _ _ c.from_residual.ensures.1
     (took_not c.args.self.now _ life c.in-Running.stations c.shed.new.self c.in-Running.field-1 stands
-    c.in-Running.is refl refl refl refl
-    (Shed name) (RefusesShed name) _ (λ later r. r) (shed_refused steady name)
-    (λ on. c.in_err-out.ensures.err life.past on))
+    c.in-Running.is refl refl refl refl (Shed c.args.name.now) refl _ (λ later r. r)
+    (c.in_err-out.ensures.err life.past))
 
 pub returns-clause-ok : goal.returns-clause-ok
 returns-clause-ok c = λ life stands.
-    let name = c.args.name.now in
     took_tapes c.args.self.now _ life c.in-Running.stations c.shed.new.self c.in-Running.field-1 stands
-    c.in-Running.is refl refl refl refl
-    (Shed name) (TakesShed name) c.in_ok-out.field-0.items (λ outputs later t. t) (shed_keeps steady name)
-    (λ on. c.in_ok-out.ensures.ok life.past on)
+    c.in-Running.is refl refl refl refl (Shed c.args.name.now) refl c.in_ok-out.field-0.items
+    (λ outputs later t. t) (c.in_ok-out.ensures.ok life.past)

@@ -2,7 +2,7 @@
 use Rattle.std.proofs.Common.{◌∙◌, ap, length, refl, sym}
 use Rattle.world_core.proofs.Results.{if_err}
 use Rattle.world_core.proofs.OutputSent.{followed, tell_refused}
-use Rattle.world_core.proofs.connection.Connection.tell.Goals as goal
+use Rattle.world_core.proofs.connection.Connection.report.Goals as goal
 
 pub returns-in_err-add_sent-clause-err : goal.returns-in_err-add_sent-clause-err
 returns-in_err-add_sent-clause-err g c = λ id conn past pair.

@@ -1,7 +1,7 @@
 use Rattle.std.proofs.Common.{◌≡◌, map, take}
 use Rattle.world_core.specs.Stepped.{opened_view}
 use Rattle.world_core.specs.Output.{view_of}
-use Rattle.world_core.proofs.restart.tell_marks.Given as goal
+use Rattle.world_core.proofs.restart.mark_outputs.Given as goal
 
 -- what is reported of those so far
 abbrev pub invariant-loop-peer : goal.invariant-loop-peer

@@ -3,7 +3,7 @@ use Rattle.std.proofs.Common.{arith}
 use Rattle.world_core.specs.Stepped.{opened_view}
 use Rattle.world_core.specs.Output.{view_of}
 use Rattle.world_core.proofs.PeerCounts.{name_more}
-use Rattle.world_core.proofs.restart.tell_marks.Goals as goal
+use Rattle.world_core.proofs.restart.mark_outputs.Goals as goal
 
 pub loop-peer-preserved : goal.loop-peer-preserved
 loop-peer-preserved c =
