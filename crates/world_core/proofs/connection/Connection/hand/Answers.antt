@@ -34,5 +34,6 @@ returns-clause-ok g c = λ id conn past pair.
 pub returns-clause-err : goal.returns-clause-err
 returns-clause-err g c = λ id conn past pair.
     let over = c.in_ok-handed.ensures.ok id conn past pair in
-    if_err_map c.report.result _ _ (c.report.ensures.err id (with_transcript conn over.transcript) over.later over.stand)
+    if_err_map c.report.result _ _
+    (c.report.ensures.err id (with_transcript conn over.transcript) over.later over.stand)
     (λ fault is. hand_on_not id c.args.now conn past c.in_ok-handed.handed _ _ over fault _ _ is)
