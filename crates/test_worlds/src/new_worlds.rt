@@ -3,7 +3,7 @@ use drill_script::{Script, read_script};
 use feed_conf::{PeerConf, read_conf};
 use std::alloc::{AllocError, Global};
 use std::test::Fail;
-use world_core::{Step, World};
+use world_core::{Step, TapesFault, World};
 
 fn peer_of(alloc: Global, settings: &[u8]) -> Result<PeerConf, Fail> {
     let Ok(conf) = read_conf(alloc, settings) else {
@@ -74,5 +74,29 @@ fn an_armed_stop_outlives_a_refused_step(rt: HostRuntime) -> Result<(), Fail> {
     assert!(rt; world.run(&refused.steps).is_err());
     let outputs = outputs_of(rt.alloc(), &mut world, &struck.steps)?;
     assert_eq!(rt; outputs.as_slice(), b"1 p new\nstopped\n".as_slice());
+    Ok(())
+}
+
+// A tape whose one payload is no note.
+const NO_TAPE: [u8; 7] = [0xa5, 0, 0, 0, 1, 7, 0];
+
+fn refused(alloc: Global, octets: &[u8]) -> Result<TapesFault, Fail> {
+    let mut peers = Vec::new(alloc);
+    peers.push((
+        peer_of(alloc, b"peer p { }")?,
+        Vec::from_slice(alloc, octets)?,
+    ))?;
+    match World::with_tapes(alloc, peers) {
+        Ok(_) => Err(Fail::from("a world")),
+        Err(fault) => Ok(fault),
+    }
+}
+
+#[test]
+fn a_fault_of_tapes_is_spelled(rt: HostRuntime) -> Result<(), Fail> {
+    let damaged = format!(in rt.alloc(); "{}", refused(rt.alloc(), &NO_TAPE)?)?;
+    assert_eq!(rt; damaged.as_str(), "Tape Damaged");
+    let no_memory = format!(in rt.alloc(); "{}", TapesFault::NoMemory)?;
+    assert_eq!(rt; no_memory.as_str(), "NoMemory");
     Ok(())
 }
