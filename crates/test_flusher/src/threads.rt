@@ -65,7 +65,35 @@ struct Hand<N: Naming> {
     fault: Option<PostFault>,
 }
 
+// What a worker keeps.
+#[derive(Clone, Copy)]
+struct HandResults {
+    number: u64,
+    room: u64,
+    settled: Option<Settled>,
+    fault: Option<PostFault>,
+}
+
 impl<N: Naming> Hand<N> {
+    // Its share, and what it keeps.
+    fn parts(self) -> (FeederShare<N>, HandResults) {
+        let Hand {
+            share,
+            number,
+            room,
+            settled,
+            fault,
+            ..
+        } = self;
+        let results = HandResults {
+            number,
+            room,
+            settled,
+            fault,
+        };
+        (share, results)
+    }
+
     fn done<D: Disk, R: Wait, P: Pace>(
         &mut self,
         rt: &R,
@@ -332,6 +360,21 @@ fn check_fault(fault: Option<PostFault>, want: Option<PostFault>) -> Result<(), 
     }
 }
 
+// What is owed and was answered on the disks, if no worker met a fault, and the flusher none but the one that is wanted.
+fn checked_on_disks(
+    alloc: Global,
+    peers: Vec<ClosedPeer<FuseDisk<MemDisk>>>,
+    workers: [Option<PostFault>; 3],
+    flusher: Option<PostFault>,
+    want: Option<PostFault>,
+) -> Result<(u64, u64), Fail> {
+    for fault in workers {
+        check_fault(fault, None)?;
+    }
+    check_fault(flusher, want)?;
+    answered_on_disks(alloc, peers)
+}
+
 fn meet<N: Naming + Send + Sync, R: AllocGlobal + Clock + Log + Threads + Wait + Sync>(
     rt: &R,
     alloc: Global,
@@ -372,22 +415,8 @@ fn meet<N: Naming + Send + Sync, R: AllocGlobal + Clock + Log + Threads + Wait +
     let Ok((first, second, third)) = ended else {
         return Err(Fail::from("a thread"));
     };
-    let Hand {
-        share: one,
-        settled: first,
-        number: first_number,
-        room: first_room,
-        fault: first_fault,
-        ..
-    } = first;
-    let Hand {
-        share: two,
-        settled: second,
-        number: second_number,
-        room: second_room,
-        fault: second_fault,
-        ..
-    } = second;
+    let (one, first) = first.parts();
+    let (two, second) = second.parts();
     let (three, receipt, fault) = third.parts();
     let IntakeHand {
         share,
@@ -395,33 +424,29 @@ fn meet<N: Naming + Send + Sync, R: AllocGlobal + Clock + Log + Threads + Wait +
         fault: intake_fault,
         ..
     } = taker;
-    let Ok(
-        ClosedPost {
-            peers,
-            intake,
+    let faults = [first.fault, second.fault, intake_fault];
+    match post.close(rt, share, one, two, three) {
+        Ok(
+            ClosedPost {
+                peers,
+                intake,
+                sums,
+            },
+        ) => Ok(MeetingResults {
+            first: first.settled,
+            second: second.settled,
+            numbers: (first.number, second.number),
+            room: first.room.saturating_add(second.room),
+            receipt,
+            intake: number,
+            gave_up,
+            mark: intake.mark(),
             sums,
-        },
-    ) = post.close(rt, share, one, two, three)
-    else {
-        return Err(Fail::from("memory"));
-    };
-    check_fault(first_fault, None)?;
-    check_fault(second_fault, None)?;
-    check_fault(intake_fault, None)?;
-    check_fault(fault, row.results.fault)?;
-    Ok(MeetingResults {
-        first,
-        second,
-        numbers: (first_number, second_number),
-        room: first_room.saturating_add(second_room),
-        receipt,
-        intake: number,
-        gave_up,
-        mark: intake.mark(),
-        sums,
-        fault,
-        on_disks: answered_on_disks(alloc, peers)?,
-    })
+            fault,
+            on_disks: checked_on_disks(alloc, peers, faults, fault, row.results.fault)?,
+        }),
+        Err(_) => Err(Fail::from("memory")),
+    }
 }
 
 fn on_disks<R: AllocGlobal + Clock + Log + Threads + Wait + Sync>(
