@@ -18,5 +18,10 @@ new-requires c = record {
   distinct = three_alone c.in_ok-peers.peers.items c.args.p c.args.q c.args.r c.in_ok-peers.ensures.items
       (cc (c.if-eq.false, c.eq.ensures, c.bytes.ensures.value, c.bytes-2.ensures.value))
       (cc (c.if-eq-2.false, c.eq-else-eq.ensures, c.bytes-else-eq.ensures.value, c.bytes-else-eq-2.ensures.value))
-      (cc (c.if-eq-3.false, c.eq-else-eq-2.ensures, c.bytes-else-eq-2-2.ensures.value, c.bytes-else-eq-2-3.ensures.value));
+      (cc (
+        c.if-eq-3.false,
+        c.eq-else-eq-2.ensures,
+        c.bytes-else-eq-2-2.ensures.value,
+        c.bytes-else-eq-2-3.ensures.value,
+      ));
 }
