@@ -360,7 +360,7 @@ fn check_fault(fault: Option<PostFault>, want: Option<PostFault>) -> Result<(), 
     }
 }
 
-// What is owed and was answered on the disks, if no worker met a fault, and the flusher none but the one that is wanted.
+// How many were answered on the disks, if no worker met a fault, and the flusher none but the one that is wanted.
 fn checked_on_disks(
     alloc: Global,
     peers: Vec<ClosedPeer<FuseDisk<MemDisk>>>,
