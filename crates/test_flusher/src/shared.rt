@@ -242,3 +242,39 @@ pub(crate) fn lacks_memory(fault: &PostFault) -> bool {
             }
     )
 }
+
+fn answered_on_disks(
+    alloc: Global,
+    peers: Vec<ClosedPeer<FuseDisk<MemDisk>>>,
+) -> Result<(u64, u64), Fail> {
+    let mut peers = peers.into_iter();
+    let first = peers.next().ok_or("a peer")?;
+    let second = peers.next().ok_or("a second peer")?;
+    Ok((
+        counted_on_disks(alloc, first)?.answered,
+        counted_on_disks(alloc, second)?.answered,
+    ))
+}
+
+// A fault that is not wanted, as for lack of memory, ends the test.
+fn check_fault(fault: Option<PostFault>, want: Option<PostFault>) -> Result<(), Fail> {
+    match fault {
+        Some(fault) if want != Some(fault) => Err(Fail::from(fault)),
+        _ => Ok(()),
+    }
+}
+
+// How many were answered on the disks, if no worker met a fault, and the flusher none but the one that is wanted.
+pub(crate) fn checked_on_disks(
+    alloc: Global,
+    peers: Vec<ClosedPeer<FuseDisk<MemDisk>>>,
+    workers: [Option<PostFault>; 3],
+    flusher: Option<PostFault>,
+    want: Option<PostFault>,
+) -> Result<(u64, u64), Fail> {
+    for fault in workers {
+        check_fault(fault, None)?;
+    }
+    check_fault(flusher, want)?;
+    answered_on_disks(alloc, peers)
+}

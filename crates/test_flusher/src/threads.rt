@@ -5,12 +5,12 @@ ghost use Rattle.flusher.specs.Post.{IsFor, names_of};
 ghost use Rattle.flusher.specs.Sealed.{IsFlushed};
 
 use crate::pace::{At, Meeting};
-use crate::shared::{DebtEnding, counted_on_disks, fused_intake, fused_peer, outcome};
+use crate::shared::{DebtEnding, checked_on_disks, fused_intake, fused_peer, outcome};
 use conn_core::{CxnId, Outcome};
 use disk_model::{Disk, FuseDisk, MemDisk};
 use flusher::{
-    Blanks, ClosedPeer, ClosedPost, FeederShare, Flusher, IntakeShare, Naming, NoThread, Pace,
-    Place, Post, PostFault, PostPeer, Signals, Sums, Who, Work, run_feeders, run_threads,
+    Blanks, ClosedPost, FeederShare, Flusher, IntakeShare, Naming, NoThread, Pace, Place, Post,
+    PostFault, PostPeer, Signals, Sums, Who, Work, run_feeders, run_threads,
 };
 use ledger_core::FinalCode;
 use log::Log;
@@ -337,42 +337,6 @@ fn run_all<
         return Ok((first, second, third));
     }
     run_threads(rt, post, &signals, feeders, third, taker, pace)
-}
-
-fn answered_on_disks(
-    alloc: Global,
-    peers: Vec<ClosedPeer<FuseDisk<MemDisk>>>,
-) -> Result<(u64, u64), Fail> {
-    let mut peers = peers.into_iter();
-    let first = peers.next().ok_or("a peer")?;
-    let second = peers.next().ok_or("a second peer")?;
-    Ok((
-        counted_on_disks(alloc, first)?.answered,
-        counted_on_disks(alloc, second)?.answered,
-    ))
-}
-
-// A fault that is not wanted, as for lack of memory, ends the test.
-fn check_fault(fault: Option<PostFault>, want: Option<PostFault>) -> Result<(), Fail> {
-    match fault {
-        Some(fault) if want != Some(fault) => Err(Fail::from(fault)),
-        _ => Ok(()),
-    }
-}
-
-// How many were answered on the disks, if no worker met a fault, and the flusher none but the one that is wanted.
-fn checked_on_disks(
-    alloc: Global,
-    peers: Vec<ClosedPeer<FuseDisk<MemDisk>>>,
-    workers: [Option<PostFault>; 3],
-    flusher: Option<PostFault>,
-    want: Option<PostFault>,
-) -> Result<(u64, u64), Fail> {
-    for fault in workers {
-        check_fault(fault, None)?;
-    }
-    check_fault(flusher, want)?;
-    answered_on_disks(alloc, peers)
 }
 
 fn meet<N: Naming + Send + Sync, R: AllocGlobal + Clock + Log + Threads + Wait + Sync>(
