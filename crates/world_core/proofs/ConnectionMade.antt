@@ -18,7 +18,7 @@ use Rattle.peer_queue.specs.DebtPlace.{IsHeldBy}
 use Rattle.world_core.specs.Past.{ConnPast, Life, PeerPast, conn_at, options_of, rank_of}
 use Rattle.world_core.specs.Exchange.{RefusesConnect, TakesConnect, fresh_conn}
 use Rattle.world_core.specs.Joined.{AreRunning, MadeOn, RefusedOn}
-use Rattle.world_core.specs.Pairs.{Tells}
+use Rattle.world_core.specs.Pairs.{Reports}
 use Rattle.world_core.specs.Sound.{HasNumber, IsSoundConn, numbers_at}
 use Rattle.world_core.specs.Stands.{ConnectionStands, PeerStands, WaitsWith}
 use Rattle.world_core.specs.Output.{Connected}
@@ -139,13 +139,13 @@ module _ {D : Type 0} {g : Ghosts D} (name : List ℕ) (life : Life) (old : Stat
 
     pub connected_made : (number : ℕ) (before outputs : List Output) (new_cs : List Connection)
         → number ≡ life.connected + 1 → new_cs ≡ cs ++ c ∷ []
-        → Tells before (Connected (life.connected + 1) name ∷ []) outputs
+        → Reports before (Connected (life.connected + 1) name ∷ []) outputs
         → MadeOn (TakesConnect name) number life before outputs old new_cs
-    connected_made number before outputs new_cs is pushed tells = record {
+    connected_made number before outputs new_cs is pushed reports = record {
       later = later_life;
       said = Connected (life.connected + 1) name ∷ [];
       makes = record { rank = rank; here = here; fits = fits; outputs_are = refl; changed = refl };
-      outputs_are = tells;
+      outputs_are = reports;
       stand = record {
         running = running.running;
         stands = running.stands;

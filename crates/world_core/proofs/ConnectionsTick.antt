@@ -10,7 +10,7 @@ use Rattle.world_core.specs.declared.connection.Connection.{Connection}
 use Rattle.world_core.specs.declared.fault.Fault.{Fault}
 use Rattle.world_core.specs.declared.stations.Stations.{Stations}
 use Rattle.world_core.specs.declared.output.Output.{Output}
-use Rattle.world_core.proofs.OutputLines.{tells_both, tells_none}
+use Rattle.world_core.proofs.OutputLines.{reports_both, reports_none}
 use Rattle.world_core.proofs.RelatedLists.{zip_length}
 
 module _ {D : Type 0} {g : Ghosts D} where
@@ -27,7 +27,7 @@ module _ {D : Type 0} {g : Ghosts D} where
     later = life;
     said = [];
     makes = Start;
-    outputs_are = tells_none outputs outputs refl;
+    outputs_are = reports_none outputs outputs refl;
     stand = running;
     armed = refl;
     connected_is = refl;
@@ -44,7 +44,7 @@ module _ {D : Type 0} {g : Ghosts D} where
       later = one.later;
       said = prefix.said ++ one.said;
       makes = Next count prefix.said one.said prefix.later one.later prefix.makes one.makes;
-      outputs_are = tells_both before mid_outputs outputs prefix.said one.said prefix.outputs_are one.outputs_are;
+      outputs_are = reports_both before mid_outputs outputs prefix.said one.said prefix.outputs_are one.outputs_are;
       stand = one.stand;
       armed = one.armed ∙ prefix.armed;
       connected_is = one.connected_is ∙ prefix.connected_is;

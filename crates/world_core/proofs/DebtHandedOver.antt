@@ -40,7 +40,7 @@ use Rattle.world_core.specs.declared.output.Handed.TheVariants.{Busy, Closed, De
 use Rattle.world_core.proofs.HeldOrOutcome.{more_numbers}
 use Rattle.world_core.proofs.ConnectionBreaks.{open_said}
 use Rattle.world_core.proofs.HeldNumbers.{moved_here, moved_other}
-use Rattle.world_core.proofs.OutputLines.{tells_both}
+use Rattle.world_core.proofs.OutputLines.{reports_both}
 use Rattle.world_core.proofs.PairTied.{settled_few, tied_more, waits_offered}
 use Rattle.world_core.proofs.PeerCalls.{read_now, read_tape, tape_broken, tape_works}
 use Rattle.world_core.proofs.OutcomeSettled.{tells_push}
@@ -348,7 +348,7 @@ some_at : {A : Type 0} (x : A) (P : A → Type 0) → IfSome (Some x) P → P x
 some_at x P is = is
 
 pub if_some : {A : Type 0} (o : Option A) (x : A) (P : A → Type 0) → o ≡ Some x → IfSome o P → P x
-if_some o x P is tells = some_at x P (subst (λ p. IfSome p P) is tells)
+if_some o x P is reports = some_at x P (subst (λ p. IfSome p P) is reports)
 
 -- ---- what follows the offer
 
@@ -406,7 +406,7 @@ module _ {D : Type 0} {g : Ghosts D} (id now : ℕ) (conn : ConnPast) (past : Pe
         follows = followed.makes;
         outputs_are = refl;
       };
-      outputs_are = tells_both before mid outputs (SaidHanded id handed ∷ []) followed.said
+      outputs_are = reports_both before mid outputs (SaidHanded id handed ∷ []) followed.said
           (tells_push before before mid (OutputHanded cxn what) refl is
           ∙ ap (λ (said : View). map view_of before ++ said ∷ [])
           (ap (λ (n : ℕ). SaidHanded n what) (own ∙ over.stand.id_is) ∙ ap (λ (h : Handover). SaidHanded id h) same))

@@ -442,22 +442,22 @@ module _ {D : Type 0} {g : Ghosts D} where
         → IfOk r (λ owed. (owed ≡ answer_above mark line.0)
         × DidAt past (good_events rank pending mark line) rank source (pending_behind pending mark line)
         (mark_behind mark line) new)
-    line_took (inl (broken, stands)) r tells = if_ok_map r _ _ (tells past stands) (λ owed o.
+    line_took (inl (broken, stands)) r reports = if_ok_map r _ _ (reports past stands) (λ owed o.
         let does = o.did.does in
         absurd (apart does.peer.tape.broken does.works (broken_there past rank broken does.peer does.here)))
-    line_took (inr d) r tells = if_ok_map r _ _ (tells d.did.later d.did.stands) (line_did d)
+    line_took (inr d) r reports = if_ok_map r _ _ (reports d.did.later d.did.stands) (line_did d)
 
     pub line_failed : {T : Type 0} → made → (r : Result T Fault)
         → ((p : Past) → Stands old p → IfErr r (λ fault.
         FailedOne p (Imports rank line.0 line.1.0 line.1.1) fault new))
         → IfErr r (λ fault. Failed past (good_events rank pending mark line) fault new)
-    line_failed (inl (broken, stands)) r tells = if_err_map r _ _ (tells past stands) (λ fault failed.
+    line_failed (inl (broken, stands)) r reports = if_err_map r _ _ (reports past stands) (λ fault failed.
         line_broken past rank fault new
         (broke_so _ past rank (Imports rank line.0 line.1.0 line.1.1) fault new failed broken failed.refused
         (λ peer tape is refused.
         (owe_broken peer.tape (Owe (import_key line.0 peer) line.1.0 line.1.1) fault is refused.1, refused.2)))
         pending mark line)
-    line_failed (inr d) r tells = if_err_map r _ _ (tells d.did.later d.did.stands) (λ fault failed.
+    line_failed (inr d) r reports = if_err_map r _ _ (reports d.did.later d.did.stands) (λ fault failed.
         let event = Imports rank line.0 line.1.0 line.1.1 in
         failed_then past (room_for rank pending mark line.0) (event ∷ []) fault old new d.did
         (failed_one d.did.later event fault new failed))
@@ -544,25 +544,25 @@ module _ {D : Type 0} {g : Ghosts D} where
         → (fault : Fault)
         → ((p : Past) → Stands old p → FailedOne p (Closes rank) fault mid)
         → Failed past (close_events rank pending) fault mid
-    close_failed (inl (broken, stands)) fault tells =
-        let failed = tells past stands in
+    close_failed (inl (broken, stands)) fault reports =
+        let failed = reports past stands in
         close_broken past rank fault mid
         (broke_so _ past rank (Closes rank) fault mid failed broken failed.refused
         (λ peer tape is refused. (close_not peer.tape (closing peer) fault is refused.0, refused.1))) pending
-    close_failed (inr d) fault tells =
+    close_failed (inr d) fault reports =
         failed_then past (room_events rank pending) (Closes rank ∷ Spills rank ∷ []) fault old mid d.did
         (failed_before d.did.later (Closes rank ∷ []) (Spills rank ∷ []) fault mid
-        (failed_one d.did.later (Closes rank) fault mid (tells d.did.later d.did.stands)))
+        (failed_one d.did.later (Closes rank) fault mid (reports d.did.later d.did.stands)))
 
     -- the source was closed, and its peer must still be flushed
     pub closed_one : MadeRoom past (room_events rank pending) rank source (with_room pending) mark old → (closed : ℕ)
         → ((p : Past) → Stands old p → ClosedOne p rank closed mid)
         → (closed ≡ source) × Did past (room_events rank pending ++ Closes rank ∷ []) mid
-    closed_one (inl (broken, stands)) closed tells =
-        let does = (tells past stands).did.does in
+    closed_one (inl (broken, stands)) closed reports =
+        let does = (reports past stands).did.does in
         absurd (apart does.peer.tape.broken does.works (broken_there past rank broken does.peer does.here))
-    closed_one (inr d) closed tells =
-        let o = tells d.did.later d.did.stands in (
+    closed_one (inr d) closed reports =
+        let o = reports d.did.later d.did.stands in (
           o.source_is
               ∙ ap (λ (p : PeerPast). open_source p) (once o.peer d.at.peer (sym o.here ∙ d.at.here)) ∙ d.at.source_is,
           did_then past (room_events rank pending) (Closes rank ∷ []) old mid d.did
@@ -630,9 +630,9 @@ module _ (name : List ℕ) (text : Vec ℕ) (past : Past) (rank : ℕ) (named : 
         → ((p : Past) (source pending mark : ℕ) → Stands old p → IsAt p rank source pending mark
         → Failed p (import_events rank pending mark lines) fault new)
         → TookNot (Import name text) past fault new
-    import_failed old stands fault new tells =
+    import_failed old stands fault new reports =
         failed_by (Import name text) past plan_here fault new is_plan
-        (tells past source_here pending_here mark_here stands at_first)
+        (reports past source_here pending_here mark_here stands at_first)
 
     module _ (old : Stations D g) (stands : Stands old past) (count : ℕ) (mid new : Stations D g)
         (imports : (p : Past) (source pending mark : ℕ) → Stands old p → IsAt p rank source pending mark
@@ -644,18 +644,18 @@ module _ (name : List ℕ) (text : Vec ℕ) (past : Past) (rank : ℕ) (named : 
           → ((p : Past) (source pending mark : ℕ) → Stands mid p → IsAt p rank source pending mark
           → Failed p (close_events rank pending) fault new)
           → TookNot (Import name text) past fault new
-      import_not_closed fault tells =
+      import_not_closed fault reports =
           failed_by (Import name text) past plan_here fault new is_plan
           (subst (λ (es : List Event). Failed past es fault new) (sym each.split)
           (failed_then past each.events (close_events rank each.now_pending) fault mid new each.done.did
-          (tells each.done.did.later source_here each.now_pending each.now_mark each.done.did.stands each.done.at)))
+          (reports each.done.did.later source_here each.now_pending each.now_mark each.done.did.stands each.done.at)))
 
       pub import_took : (own : List ℕ) (closed : ℕ) (outputs : List Output) → own ≡ name
           → outputs ≡ OutputImported own closed count ∷ []
           → ((p : Past) (source pending mark : ℕ) → Stands mid p → IsAt p rank source pending mark
           → (closed ≡ source) × Did p (close_events rank pending) new)
           → TookTapes (Import name text) past outputs new
-      import_took own closed outputs is tells closes =
+      import_took own closed outputs is reports closes =
           let closed_so = closes each.done.did.later source_here each.now_pending each.now_mark each.done.did.stands
           each.done.at in
           let counted : count ≡ count_new mark_here lines = omega (arith, each.counted) in
@@ -663,6 +663,6 @@ module _ (name : List ℕ) (text : Vec ℕ) (past : Past) (rank : ℕ) (named : 
           is_plan
           (subst (λ (es : List Event). Did past es new) (sym each.split)
           (did_then past each.events (close_events rank each.now_pending) mid new each.done.did closed_so.1))
-          (ap (map view_of) tells ∙ ap (λ (n : List ℕ). SaidImported n closed count ∷ []) is
+          (ap (map view_of) reports ∙ ap (λ (n : List ℕ). SaidImported n closed count ∷ []) is
           ∙ ap (λ (k : ℕ). SaidImported name k count ∷ []) closed_so.0
           ∙ ap (λ (k : ℕ). SaidImported name source_here k ∷ []) counted)

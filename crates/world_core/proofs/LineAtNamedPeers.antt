@@ -198,7 +198,7 @@ module _ {D : Type 0} {g : Ghosts D} where
         → OwedOne so_far.did.later at.0 token id owed new
         → name ≡ at.1 → new_outputs ≡ outputs ++ record { name = name; owed = owed } ∷ []
         → OwedSome past token id named (length prefix + 1) new_outputs new
-    some_more outputs new_outputs name owed old new so_far one is tells =
+    some_more outputs new_outputs name owed old new so_far one is reports =
         let entry = next_of past named prefix at back found in
         let next_rank : entry.0.0 ≡ at.0 = ap (λ (e : ℕ × List ℕ). e.0) entry.2 in
         let longer : take (length prefix + 1) (named_from 0 named past.peers)
@@ -223,7 +223,7 @@ module _ {D : Type 0} {g : Ghosts D} where
               ∙ ap (λ (n : ℕ). map (owes_at token id) (take (length prefix) (named_from 0 named past.peers))
               ++ Owes n token id ∷ []) next_rank)
               so_far.did one.did;
-          outputs_are = ap (map said_at) tells ∙ map_push said_at outputs (record { name = name; owed = owed })
+          outputs_are = ap (map said_at) reports ∙ map_push said_at outputs (record { name = name; owed = owed })
               ∙ ap (λ l. l ++ (name, owed) ∷ []) so_far.outputs_are
               ∙ ap (λ (n : List ℕ). map (faults_of (past.last + 1))
               (take (length prefix) (named_from 0 named past.peers)) ++ (n, owed) ∷ []) own

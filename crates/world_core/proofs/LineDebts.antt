@@ -211,19 +211,20 @@ outputs_are number named (peer ∷ peers) =
 -- what a plan of a line has made of the tapes, and has reported
 abbrev Read : List View → Past → Past → Plan → Type 0
 Read outputs mid later plan =
-    AllDo plan.begun plan.events mid × (outputs ≡ plan.tells mid) × (later ≡ plan.ends mid)
+    AllDo plan.begun plan.events mid × (outputs ≡ plan.reports mid) × (later ≡ plan.ends mid)
 
 read_again : (life : Life) (outputs : List View) (later : Life) (mid past : Past) (text : Vec ℕ)
     → later ≡ with_past life past → (reading : Reading) → IsReading text.items reading
     → Read outputs mid past (reading_plan reading life.past)
-    → WasRead (life.past.last + 1) text.items life outputs later ⊎ WasBad (life.past.last + 1) life outputs later
+    → WasRead (life.past.last + 1) text.items life outputs later
+    ⊎ WasBad (life.past.last + 1) text.items life outputs later
 read_again life outputs later mid past text changed (Good token id named) reads (does, said, is) = inl (record {
   token = token;
   id = id;
   named = named;
   reads = reads;
   answers = owed_there (life.past.last + 1) named life.past.peers;
-  tells = said;
+  reports = said;
   new = outputs_are (life.past.last + 1) named life.past.peers;
   changed = changed ∙ ap (with_past life)
       (is ∙ ap (λ (p : Past). with_last p (life.past.last + 1))
@@ -231,7 +232,8 @@ read_again life outputs later mid past text changed (Good token id named) reads 
 })
 read_again life outputs later mid past text changed (NotGood fault) reads (does, said, is) = inr (record {
   fault = fault;
-  tells = said;
+  reads = reads;
+  reports = said;
   changed = changed ∙ ap (with_past life)
       (is ∙ ap (λ (p : Past). with_last p (life.past.last + 1)) (none_done life.past mid [] does refl));
 })
@@ -253,7 +255,8 @@ not_met text life stop under_way meets =
     let no = sym quiet ∙ meets.at_tape in cc
 
 took_line : (life later : Life) (outputs : List View) (text : Vec ℕ) → Takes (Line text) life outputs later
-    → WasRead (life.past.last + 1) text.items life outputs later ⊎ WasBad (life.past.last + 1) life outputs later
+    → WasRead (life.past.last + 1) text.items life outputs later
+    ⊎ WasBad (life.past.last + 1) text.items life outputs later
 took_line life later outputs text (inl (runs, (past, line, changed))) =
     read_again life outputs later line.mid past text
     (changed ∙ ap (λ (running : Bool). record life { past = past; running = running }) (sym runs))

@@ -71,7 +71,7 @@ module _ {D : Type 0} {g : Ghosts D} where
         → IsFunnelLine text token id named → OwedLine past token id named peers.items old → old.last ≡ first.last
         → WithLast old new number
         → outputs ≡ OutputOwed number peers ∷ [] → TookTapes (Line line) past outputs new
-    line_good token id named peers outputs old new reads owed kept same tells =
+    line_good token id named peers outputs old new reads owed kept same reports =
         let still : owed.did.later.last ≡ past.last = sym owed.did.stands.last ∙ kept ∙ stands.last in
         record {
           later = with_last owed.did.later (past.last + 1);
@@ -80,7 +80,7 @@ module _ {D : Type 0} {g : Ghosts D} where
             is_plan = line_plan (Good token id named) reads;
             mid = owed.did.later;
             does = owed.did.does;
-            outputs_are = ap (map view_of) tells ∙ ap (λ l. SaidOwed number l ∷ []) owed.outputs_are
+            outputs_are = ap (map view_of) reports ∙ ap (λ l. SaidOwed number l ∷ []) owed.outputs_are
                 ∙ ap (λ (n : ℕ). SaidOwed n (owed_there (past.last + 1) named past.peers) ∷ []) next;
             later_is = refl;
           };
@@ -91,14 +91,14 @@ module _ {D : Type 0} {g : Ghosts D} where
     pub line_bad : (fault : LineFault) (outputs : List Output) (new : Stations D g) → HasFault text fault
         → fault ≢ NoLineMemory → WithLast first new number
         → outputs ≡ OutputBad number fault ∷ [] → TookTapes (Line line) past outputs new
-    line_bad fault outputs new has other same tells = record {
+    line_bad fault outputs new has other same reports = record {
       later = with_last past (past.last + 1);
       takes = record {
         plan = reading_plan (NotGood fault) past;
         is_plan = line_plan (NotGood fault) (has, other);
         mid = past;
         does = Start;
-        outputs_are = ap (map view_of) tells ∙ ap (λ (n : ℕ). SaidBad n fault ∷ []) next;
+        outputs_are = ap (map view_of) reports ∙ ap (λ (n : ℕ). SaidBad n fault ∷ []) next;
         later_is = refl;
       };
       stands = stands_last first new past number (past.last + 1) stands same next (omega arith)

@@ -26,7 +26,7 @@ use Rattle.world_core.specs.Past.{ConnPast, PeerPast, options_of}
 use Rattle.world_core.specs.Events.{RefusesEnd, settled, settled_as, settling}
 use Rattle.world_core.specs.Exchange.{one_out, unsettled, waiting}
 use Rattle.world_core.specs.Fault.{fault_of_station}
-use Rattle.world_core.specs.Pairs.{IsTied, PairStands, SettledNot, SettledOne, TakesNext, Tells}
+use Rattle.world_core.specs.Pairs.{IsTied, PairStands, SettledNot, SettledOne, TakesNext, Reports}
 use Rattle.world_core.specs.Sound.{numbers_at}
 use Rattle.world_core.specs.Stands.{HoldsTranscript, PeerStands, TapeStands, WaitsWith}
 use Rattle.world_core.specs.Output.{view_of}
@@ -43,7 +43,7 @@ use Rattle.world_core.proofs.PeerCalls.{tape_broken, tape_works}
 -- ---- what is reported
 
 pub tells_push : (was mid outputs : List Output) (more : Output) → mid ≡ was → outputs ≡ mid ++ more ∷ []
-    → Tells was (view_of more ∷ []) outputs
+    → Reports was (view_of more ∷ []) outputs
 tells_push was mid outputs more same is =
     ap (map view_of) (is ∙ ap (λ (l : List Output). l ++ more ∷ []) same) ∙ map_push view_of was more
 

@@ -9,7 +9,7 @@ use Rattle.std.proofs.lemmas.List.Elements.{All-head, All-tail}
 use Rattle.funnel.specs.Line.{without_cr}
 use Rattle.funnel.specs.Stream.{BeginsWithLine, IsUnended}
 use Rattle.world_core.specs.Output.{SentLine, View, lines_from, lines_in, view_of}
-use Rattle.world_core.specs.Pairs.{Tells}
+use Rattle.world_core.specs.Pairs.{Reports}
 use Rattle.world_core.specs.declared.output.Output.{Output}
 
 -- a whole line, and the lines after it
@@ -59,10 +59,10 @@ position_within p xs n is =
 -- ---- what is reported
 
 -- a report in two parts
-pub tells_both : (was mid outputs : List Output) (one other : List View) → Tells was one mid → Tells mid other outputs
-    → Tells was (one ++ other) outputs
-tells_both was mid outputs one other first second =
+pub reports_both : (was mid outputs : List Output) (one other : List View) → Reports was one mid
+    → Reports mid other outputs → Reports was (one ++ other) outputs
+reports_both was mid outputs one other first second =
     second ∙ (ap (λ l. l ++ other) first ∙ append_assoc (map view_of was) one other)
 
-pub tells_none : (was outputs : List Output) → outputs ≡ was → Tells was [] outputs
-tells_none was outputs same = ap (map view_of) same ∙ sym (append-nil (map view_of was))
+pub reports_none : (was outputs : List Output) → outputs ≡ was → Reports was [] outputs
+reports_none was outputs same = ap (map view_of) same ∙ sym (append-nil (map view_of was))

@@ -11,7 +11,7 @@ use Rattle.conn_core.specs.declared.options.Options.{Options}
 use Rattle.conn_core.specs.declared.reason.Reason.{Reason}
 use Rattle.world_core.specs.Past.{ConnPast, PeerPast, options_of}
 use Rattle.world_core.specs.Exchange.{followed_up, settled_out, unsettled}
-use Rattle.world_core.specs.Pairs.{Followed, FollowedNot, SettledAll, Tells, settled_view}
+use Rattle.world_core.specs.Pairs.{Followed, FollowedNot, SettledAll, Reports, settled_view}
 use Rattle.world_core.specs.Stands.{HoldsTranscript}
 use Rattle.world_core.specs.Output.{SentLine, closed_view, lines_in, need_view}
 use Rattle.world_core.specs.declared.connection.Connection.{Connection}
@@ -20,7 +20,7 @@ use Rattle.world_core.specs.declared.fault.Fault.TheVariants.{NoMemory}
 use Rattle.world_core.specs.declared.peer.Peer.{Peer}
 use Rattle.world_core.specs.declared.output.Output.{Output}
 use Rattle.world_core.proofs.HeldOrOutcome.{GoesOn, goes_noted}
-use Rattle.world_core.proofs.OutputLines.{tells_both}
+use Rattle.world_core.proofs.OutputLines.{reports_both}
 use Rattle.world_core.proofs.PairTied.{pair_on}
 
 -- ---- octets that are held back
@@ -49,8 +49,8 @@ module _ {D : Type 0} {g : Ghosts D} where
     stands_out = subst (λ (c : PeerConf). HoldsTranscript c out mid_c) all.some.same_conf all.some.stand.holds
 
     -- memory is refused after them
-    pub tell_refused : (fault : Fault) → fault ≡ NoMemory → FollowedNot id now conn past fault mid_c peer
-    tell_refused fault is = record {
+    pub as_refused : (fault : Fault) → fault ≡ NoMemory → FollowedNot id now conn past fault mid_c peer
+    as_refused fault is = record {
       later_conn = out;
       later = all.later;
       refuses = record {
@@ -71,8 +71,8 @@ module _ {D : Type 0} {g : Ghosts D} where
         → ((o : Options) (unread : List ℕ) (h : List Happening) → ConnStands o mid_c.conn unread h → wanted ≡ need o h)
         → ((o : Options) (unread : List ℕ) (h : List Happening) → ConnStands o mid_c.conn unread h
         → closed ≡ reason o h)
-        → Tells one (map (SentLine cxn) (lines_in sending)) two → Tells two (need_view cxn wanted) three
-        → ((w : Option Reason) → was_open ≡ is_none w → Tells three (closed_view cxn w closed) outputs)
+        → Reports one (map (SentLine cxn) (lines_in sending)) two → Reports two (need_view cxn wanted) three
+        → ((w : Option Reason) → was_open ≡ is_none w → Reports three (closed_view cxn w closed) outputs)
         → was_open ≡ is_none (reason (options_of past.conf) was) → count ≡ length sending
         → new_c.rank ≡ mid_c.rank → new_c.waiting ≡ mid_c.waiting → new_c.conn.id ≡ mid_c.conn.id
         → ((o : Options) (unread : List ℕ) (h : List Happening) → ConnStands o mid_c.conn unread h
@@ -98,15 +98,15 @@ module _ {D : Type 0} {g : Ghosts D} where
           later_conn = followed_up o conn;
           later = all.later;
           makes = record { settles = all.some.settles; outputs_are = refl; changed = refl };
-          outputs_are = tells_both before one outputs _ _ all.some.outputs_are (tells_both one two outputs _ _
-              (subst (λ (l : List ℕ). Tells one (map (SentLine id) (lines_in l)) two) sending_is
-              (subst (λ (n : ℕ). Tells one (map (SentLine n) (lines_in sending)) two) own_id sent_so))
-              (tells_both two three outputs _ _
-              (subst (λ (w : Option ℕ). Tells two (need_view id w) three) (needs o out.unread h stands_out)
-              (subst (λ (n : ℕ). Tells two (need_view n wanted) three) own_id needed))
-              (subst (λ (r : Option Reason). Tells three (closed_view id (reason o was) r) outputs)
+          outputs_are = reports_both before one outputs _ _ all.some.outputs_are (reports_both one two outputs _ _
+              (subst (λ (l : List ℕ). Reports one (map (SentLine id) (lines_in l)) two) sending_is
+              (subst (λ (n : ℕ). Reports one (map (SentLine n) (lines_in sending)) two) own_id sent_so))
+              (reports_both two three outputs _ _
+              (subst (λ (w : Option ℕ). Reports two (need_view id w) three) (needs o out.unread h stands_out)
+              (subst (λ (n : ℕ). Reports two (need_view n wanted) three) own_id needed))
+              (subst (λ (r : Option Reason). Reports three (closed_view id (reason o was) r) outputs)
               (closes o out.unread h stands_out)
-              (subst (λ (n : ℕ). Tells three (closed_view n (reason o was) closed) outputs) own_id
+              (subst (λ (n : ℕ). Reports three (closed_view n (reason o was) closed) outputs) own_id
               (says (reason o was) was_is)))));
           stand = pair_on id out (followed_up o conn) all.later mid_c new_c peer all.some.stand refl refl
               (subst (λ (x : Options). GoesOn x h (followed_up o conn).transcript) (sym same)

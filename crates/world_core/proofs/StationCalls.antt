@@ -91,7 +91,7 @@ module _ {D : Type 0} {g : Ghosts D} where
 
     pub did_part : {T : Type 0} (r : Result T Fault)
         → ((p : PeerPast) → PeerStands p was → OnOk r (FlushedPeer p peer)) → OnOk r (DidOne past (Parts rank) new)
-    did_part r tells = on_ok_map r _ _ (tells here.0 here.2) (λ is.
+    did_part r reports = on_ok_map r _ _ (reports here.0 here.2) (λ is.
         did (Parts rank) (parted here.0 is.later)
         (record { peer = here.0; tape = is.later; here = here.1; flushes = is.flushes; changed = refl }) is.stands
         (sound_flushed past rank here.0 is.later stands.sound here.1
@@ -99,7 +99,7 @@ module _ {D : Type 0} {g : Ghosts D} where
 
     pub did_spill : {T : Type 0} (r : Result T Fault)
         → ((p : PeerPast) → PeerStands p was → OnOk r (SpilledPeer p peer)) → OnOk r (DidOne past (Spills rank) new)
-    did_spill r tells = on_ok_map r _ _ (tells here.0 here.2) (λ is.
+    did_spill r reports = on_ok_map r _ _ (reports here.0 here.2) (λ is.
         did (Spills rank) (with_tape here.0 is.later)
         (record { peer = here.0; tape = is.later; here = here.1; flushes = is.flushes; changed = refl }) is.stands
         (sound_spilled past rank here.0 is.later stands.sound here.1
@@ -108,20 +108,20 @@ module _ {D : Type 0} {g : Ghosts D} where
     pub failed_part : {T : Type 0} (r : Result T Fault)
         → ((p : PeerPast) → PeerStands p was → IfErr r (λ fault. UnflushedPeer p fault peer))
         → IfErr r (λ fault. FailedOne past (Parts rank) fault new)
-    failed_part r tells = if_err_map r _ _ (tells here.0 here.2) (λ fault is.
+    failed_part r reports = if_err_map r _ _ (reports here.0 here.2) (λ fault is.
         failed (Parts rank) _ (λ f later refused. refused) fault is.later is.refused
         (same_history (KeepsNotes here.0) here.0.tape fault is.later is.refused) is.stands)
 
     pub failed_spill : {T : Type 0} (r : Result T Fault)
         → ((p : PeerPast) → PeerStands p was → IfErr r (λ fault. UnflushedPeer p fault peer))
         → IfErr r (λ fault. FailedOne past (Spills rank) fault new)
-    failed_spill r tells = if_err_map r _ _ (failed_part r tells)
+    failed_spill r reports = if_err_map r _ _ (failed_part r reports)
         (λ fault is. record { later = is.later; refused = is.refused; stands = is.stands })
 
     pub did_rotate : (r : Result ℕ Fault)
         → ((p : PeerPast) → PeerStands p was → IfOk r (λ generation. RotatedPeer p generation peer))
         → IfOk r (λ generation. DidOne past (Rotates rank generation) new)
-    did_rotate r tells = if_ok_map r _ _ (tells here.0 here.2) (λ generation is.
+    did_rotate r reports = if_ok_map r _ _ (reports here.0 here.2) (λ generation is.
         did (Rotates rank generation) (with_tape here.0 is.later)
         (record { peer = here.0; tape = is.later; here = here.1; rotates = is.rotates; changed = refl }) is.stands
         (sound_spilled past rank here.0 is.later stands.sound here.1
@@ -130,14 +130,14 @@ module _ {D : Type 0} {g : Ghosts D} where
     pub failed_rotate : {T : Type 0} (r : Result T Fault)
         → ((p : PeerPast) → PeerStands p was → IfErr r (λ fault. UnrotatedPeer p fault peer))
         → IfErr r (λ fault. FailedOne past (Rotates rank 0) fault new)
-    failed_rotate r tells = if_err_map r _ _ (tells here.0 here.2) (λ fault is.
+    failed_rotate r reports = if_err_map r _ _ (reports here.0 here.2) (λ fault is.
         failed (Rotates rank 0) _ (λ f later refused. refused) fault is.later is.refused
         (same_rotated (KeepsNotes here.0) here.0.tape fault is.later is.refused) is.stands)
 
     pub did_shed : (r : Result (Vec ℕ) Fault)
         → ((p : PeerPast) → PeerStands p was → IfOk r (λ numbers. ShedPeer p numbers.items peer))
         → IfOk r (λ numbers. DidOne past (Sheds rank numbers.items) new)
-    did_shed r tells = if_ok_map r _ _ (tells here.0 here.2) (λ numbers is.
+    did_shed r reports = if_ok_map r _ _ (reports here.0 here.2) (λ numbers is.
         did (Sheds rank numbers.items) (shed_peer numbers.items here.0)
         (record { peer = here.0; here = here.1; works = is.works; sheds = is.sheds; changed = refl }) is.stands
         (sound_shed past rank here.0 numbers.items stands.sound here.1 here.2.tape.stands.kept_within))
@@ -145,13 +145,13 @@ module _ {D : Type 0} {g : Ghosts D} where
     pub failed_shed : {T : Type 0} (r : Result T Fault)
         → ((p : PeerPast) → PeerStands p was → IfErr r (λ fault. UnshedPeer p fault peer))
         → IfErr r (λ fault. FailedOne past (Sheds rank []) fault new)
-    failed_shed r tells = if_err_map r _ _ (tells here.0 here.2) (λ fault is.
+    failed_shed r reports = if_err_map r _ _ (reports here.0 here.2) (λ fault is.
         failed (Sheds rank []) _ (λ f later refused. refused) fault here.0.tape is.refused refl is.stands)
 
     pub did_close : (r : Result ℕ Fault)
         → ((p : PeerPast) → PeerStands p was → IfOk r (λ source. ClosedPeer p source peer))
         → IfOk r (λ source. ClosedOne past rank source new)
-    did_close r tells = if_ok_map r _ _ (tells here.0 here.2) (λ source is. record {
+    did_close r reports = if_ok_map r _ _ (reports here.0 here.2) (λ source is. record {
       peer = here.0;
       here = here.1;
       source_is = is.source_is;
@@ -163,7 +163,7 @@ module _ {D : Type 0} {g : Ghosts D} where
     pub failed_close : {T : Type 0} (r : Result T Fault)
         → ((p : PeerPast) → PeerStands p was → IfErr r (λ fault. UnclosedPeer p fault peer))
         → IfErr r (λ fault. FailedOne past (Closes rank) fault new)
-    failed_close r tells = if_err_map r _ _ (tells here.0 here.2) (λ fault is.
+    failed_close r reports = if_err_map r _ _ (reports here.0 here.2) (λ fault is.
         failed (Closes rank) _ (λ f later refused. refused) fault here.0.tape (is.refused, refl) refl is.stands)
 
     -- a line is owed under a key above the numbers of all lines
@@ -190,7 +190,7 @@ module _ {D : Type 0} {g : Ghosts D} where
           → ((p : PeerPast) → PeerStands p was
           → IfOk r (λ owed. OwedTo (imported_as number) (import_key number) token id p owed peer))
           → IfOk r (λ owed. ImportedOne past rank number token id owed new)
-      did_import number r tells = if_ok_map r _ _ (tells here.0 here.2) (λ owed is. record {
+      did_import number r reports = if_ok_map r _ _ (reports here.0 here.2) (λ owed is. record {
         peer = here.0;
         here = here.1;
         owed_is = is.owed_is;
@@ -202,7 +202,7 @@ module _ {D : Type 0} {g : Ghosts D} where
           → ((p : PeerPast) → PeerStands p was
           → IfErr r (λ fault. OwedNot (imported_as number) (import_key number) token id p fault peer))
           → IfErr r (λ fault. FailedOne past (Imports rank number token id) fault new)
-      failed_import number r tells = if_err_map r _ _ (tells here.0 here.2) (λ fault is.
+      failed_import number r reports = if_err_map r _ _ (reports here.0 here.2) (λ fault is.
           failed (Imports rank number token id) _ (λ f later refused. refused) fault here.0.tape is.refused refl
           is.stands)
 
@@ -213,7 +213,7 @@ module _ {D : Type 0} {g : Ghosts D} where
           → ((p : PeerPast) → PeerStands p was → IfOk r (λ owed.
           OwedTo (owed_as (old.last + 1)) (λ (q : PeerPast). old.last + 1) token id p owed peer))
           → IfOk r (λ owed. OwedOne past rank token id owed new)
-      did_owe r tells = if_ok_map r _ _ (tells here.0 here.2) (λ owed outputs.
+      did_owe r reports = if_ok_map r _ _ (reports here.0 here.2) (λ owed outputs.
           let is = subst (λ (n : ℕ). OwedTo (owed_as n) (λ (q : PeerPast). n) token id here.0 owed peer) next outputs in
           record {
             peer = here.0;
@@ -227,7 +227,7 @@ module _ {D : Type 0} {g : Ghosts D} where
           → ((p : PeerPast) → PeerStands p was → IfErr r (λ fault.
           OwedNot (owed_as (old.last + 1)) (λ (q : PeerPast). old.last + 1) token id p fault peer))
           → IfErr r (λ fault. FailedOne past (Owes rank token id) fault new)
-      failed_owe r tells = if_err_map r _ _ (tells here.0 here.2) (λ fault outputs.
+      failed_owe r reports = if_err_map r _ _ (reports here.0 here.2) (λ fault outputs.
           let is = subst (λ (n : ℕ). OwedNot (owed_as n) (λ (q : PeerPast). n) token id here.0 fault peer) next
           outputs in
           failed (Owes rank token id) _ (λ f later refused. refused) fault here.0.tape is.refused refl is.stands)

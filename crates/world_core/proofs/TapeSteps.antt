@@ -43,14 +43,14 @@ pushed old new x more none = more ∙ ap (λ l. l ++ x ∷ []) none
 pub shed_said : (name own : List ℕ) (numbers : Vec ℕ) (outputs : List Output) → own ≡ name → outputs
     ≡ OutputShed own numbers ∷ []
     → map view_of outputs ≡ SaidShed name numbers.items ∷ []
-shed_said name own numbers outputs is tells =
-    ap (map view_of) tells ∙ ap (λ (n : List ℕ). SaidShed n numbers.items ∷ []) is
+shed_said name own numbers outputs is reports =
+    ap (map view_of) reports ∙ ap (λ (n : List ℕ). SaidShed n numbers.items ∷ []) is
 
 pub rotate_said : (name own : List ℕ) (generation : ℕ) (outputs : List Output) → own ≡ name
     → outputs ≡ OutputRotated own generation ∷ []
     → map view_of outputs ≡ SaidRotated name generation ∷ []
-rotate_said name own generation outputs is tells =
-    ap (map view_of) tells ∙ ap (λ (n : List ℕ). SaidRotated n generation ∷ []) is
+rotate_said name own generation outputs is reports =
+    ap (map view_of) reports ∙ ap (λ (n : List ℕ). SaidRotated n generation ∷ []) is
 
 -- ---- all are flushed
 
@@ -104,14 +104,14 @@ is_flush past number is =
 -- ---- the plan of a step
 
 module _ {D : Type 0} {g : Ghosts D} where
-  pub took_by : (step : Step) (past begun : Past) (events : List Event) (tells : Past → List View)
+  pub took_by : (step : Step) (past begun : Past) (events : List Event) (reports : Past → List View)
       (outputs : List Output) (stations : Stations D g)
-      → IsPlan step past (planned begun events tells) → (did : Did begun events stations)
-      → map view_of outputs ≡ tells did.later → TookTapes step past outputs stations
-  took_by step past begun events tells outputs stations is did said = record {
+      → IsPlan step past (planned begun events reports) → (did : Did begun events stations)
+      → map view_of outputs ≡ reports did.later → TookTapes step past outputs stations
+  took_by step past begun events reports outputs stations is did said = record {
     later = did.later;
     takes = record {
-      plan = planned begun events tells;
+      plan = planned begun events reports;
       is_plan = is;
       mid = did.later;
       does = did.does;
@@ -213,11 +213,12 @@ module _ {D : Type 0} {g : Ghosts D} where
         (failed_one one.later Acknowledges fault new two)
 
   -- what a seal reports, and a flush
-  pub seal_tells : (past : Past) (mark : ℕ) (outputs : List Output) (stations : Stations D g)
+  pub seal_reports : (past : Past) (mark : ℕ) (outputs : List Output) (stations : Stations D g)
       → Stands stations past → mark ≡ (ledger_of stations.intake).mark → outputs ≡ OutputTaken mark ∷ []
       → map view_of outputs ≡ seal_view past
-  seal_tells past mark outputs stations stands is tells =
-      ap (map view_of) tells ∙ ap (λ (m : ℕ). SaidTaken m ∷ []) (is ∙ mark_is past.intake stations.intake stands.intake)
+  seal_reports past mark outputs stations stands is reports =
+      ap (map view_of) reports
+      ∙ ap (λ (m : ℕ). SaidTaken m ∷ []) (is ∙ mark_is past.intake stations.intake stands.intake)
 
   -- ---- all are flushed, and the number is sealed
 
@@ -251,11 +252,11 @@ module _ {D : Type 0} {g : Ghosts D} where
     pub flush_took : (mark : ℕ) (outputs : List Output) → Did each.did.later (seal_events number) new
         → mark ≡ (ledger_of new.intake).mark
         → outputs ≡ OutputTaken mark ∷ [] → TookTapes Flush past outputs new
-    flush_took mark outputs did marks tells =
+    flush_took mark outputs did marks reports =
         took_by Flush past (begun_at past) (each_rank Parts (length (begun_at past).peers) ++ seal_events number)
         seal_view outputs new (is_flush past number is)
         (did_then (begun_at past) (each_rank Parts (length (begun_at past).peers)) (seal_events number) old new
-        each.did did) (seal_tells did.later mark outputs new did.stands marks tells)
+        each.did did) (seal_reports did.later mark outputs new did.stands marks reports)
 
   -- ---- the step of one peer
 

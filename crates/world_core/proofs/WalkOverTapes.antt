@@ -146,16 +146,16 @@ pub record Frame (step : Step) (past : Past) (plan : Plan) : Type 0 where
   pub ends : (later : Past) → (plan.ends later).peers ≡ later.peers
 
 -- a plan that begins at the tapes before the step
-framed : (step : Step) (past : Past) (plan : Plan) (events : List Event) (tells : Past → List View)
-    → plan ≡ planned past events tells → AllByRecursion (OnStep (must_run step)) events → Frame step past plan
-framed step past plan events tells is on =
+framed : (step : Step) (past : Past) (plan : Plan) (events : List Event) (reports : Past → List View)
+    → plan ≡ planned past events reports → AllByRecursion (OnStep (must_run step)) events → Frame step past plan
+framed step past plan events reports is on =
     subst (Frame step past) (sym is) (record { begins = inl refl; on = on; ends = λ later. refl })
 
 -- one that begins once their number is kept
-framed_begun : (step : Step) (past : Past) (plan : Plan) (events : List Event) (tells : Past → List View)
-    → plan ≡ planned (begun_at past) events tells → AllByRecursion (OnStep (must_run step)) events
+framed_begun : (step : Step) (past : Past) (plan : Plan) (events : List Event) (reports : Past → List View)
+    → plan ≡ planned (begun_at past) events reports → AllByRecursion (OnStep (must_run step)) events
     → Frame step past plan
-framed_begun step past plan events tells is on =
+framed_begun step past plan events reports is on =
     subst (Frame step past) (sym is) (record { begins = inr refl; on = on; ends = λ later. refl })
 
 reading_frame : (text : Vec ℕ) (reading : Reading) (past : Past) → Frame (Line text) past (reading_plan reading past)

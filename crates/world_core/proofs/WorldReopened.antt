@@ -210,7 +210,7 @@ pub runs_again : (old new : World) (life : Life) (stations : _) (conns : _) (out
     → (opens : AllOpen life.past stations) → new.stage ≡ Running stations conns → conns.items ≡ []
     → map view_of outputs ≡ map opened_view stations.peers.items
     → new.armed ≡ old.armed → new.connected ≡ old.connected → new.now ≡ old.now → Took Restart life outputs new
-runs_again old new life stations conns outputs awaits stopped opens is none tells armed connected moment =
+runs_again old new life stations conns outputs awaits stopped opens is none reports armed connected moment =
     let later : Life = record life { past = opens.later; running = true } in
     let free : life.conns ≡ [] = awaits.sound.conns.none stopped in
     record {
@@ -224,7 +224,7 @@ runs_again old new life stations conns outputs awaits stopped opens is none tell
             is_plan = refl;
             mid = opens.later;
             does = opens.opens;
-            outputs_are = tells ∙ marks_said opens.later.peers stations.peers.items opens.stands.peers;
+            outputs_are = reports ∙ marks_said opens.later.peers stations.peers.items opens.stands.peers;
             later_is = refl;
           },
           refl,

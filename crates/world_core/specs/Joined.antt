@@ -3,7 +3,7 @@ use Rattle.std.specs.Prelude.{◌≡◌, ℕ, true, Option, None, Some, List, sl
 use Rattle.std.specs.List.{AllZip}
 use Rattle.disk_model.specs.declared.Disk.{Ghosts}
 use Rattle.world_core.specs.Past.{ConnPast, Life, PeerPast, conn_at}
-use Rattle.world_core.specs.Pairs.{Tells}
+use Rattle.world_core.specs.Pairs.{Reports}
 use Rattle.world_core.specs.Sound.{AreTied}
 use Rattle.world_core.specs.Stands.{ConnectionStands, Stands}
 use Rattle.world_core.specs.Output.{View}
@@ -33,7 +33,7 @@ module _ {D : Type 0} {g : Ghosts D} where
     pub later : Life
     pub said : List View
     pub makes : T life said later
-    pub outputs_are : Tells before said outputs
+    pub outputs_are : Reports before said outputs
     pub stand : AreRunning later stations connections
     pub armed : later.armed ≡ life.armed
     pub connected_is : later.connected ≡ connected

@@ -15,7 +15,7 @@ use Rattle.world_core.specs.Events.{owing_as}
 use Rattle.world_core.specs.Laws.{Comes, HasEnded, IsAcknowledgedLine}
 use Rattle.world_core.specs.Moments.{IsUnderWay}
 use Rattle.world_core.specs.Runs.{Takes}
-use Rattle.world_core.specs.Steps.{is_named}
+use Rattle.world_core.specs.Steps.{IsReading, NotGood, is_named}
 use Rattle.world_core.specs.Output.{Bad, Owed, View}
 use Rattle.world_core.specs.declared.step.Step.{Step}
 use Rattle.world_core.specs.declared.step.Step.TheVariants.{Line}
@@ -85,16 +85,18 @@ pub record WasRead (number : ℕ) (text : List ℕ) (life : Life) (outputs : Lis
   pub named : List (List ℕ)
   pub reads : IsFunnelLine text token id named
   pub answers : List (List ℕ × Answer)
-  pub tells : outputs ≡ Owed number answers ∷ []
+  pub reports : outputs ≡ Owed number answers ∷ []
   pub new : reported_new answers ≡ new_to number named life.past.peers
   pub changed : later ≡ with_past life (read_by number token id named life.past)
 
--- A malformed line changes nothing at any peer.
-pub record WasBad (number : ℕ) (life : Life) (outputs : List View) (later : Life) : Type 0 where
+-- A malformed line was read under this number: its fault is reported, and nothing changes at any peer.
+pub record WasBad (number : ℕ) (text : List ℕ) (life : Life) (outputs : List View) (later : Life) : Type 0 where
   pub fault : LineFault
-  pub tells : outputs ≡ Bad number fault ∷ []
+  pub reads : IsReading text (NotGood fault)
+  pub reports : outputs ≡ Bad number fault ∷ []
   pub changed : later ≡ with_past life (with_last life.past number)
 
 abbrev pub LinesAreReadAgain : Type 0
 LinesAreReadAgain = (life later : Life) (outputs : List View) (text : Vec ℕ) → Takes (Line text) life outputs later
-    → WasRead (life.past.last + 1) text.items life outputs later ⊎ WasBad (life.past.last + 1) life outputs later
+    → WasRead (life.past.last + 1) text.items life outputs later
+    ⊎ WasBad (life.past.last + 1) text.items life outputs later

@@ -48,8 +48,8 @@ TakesNext options past (Some outcome) connection =
     × ConnStands options connection.conn past.unread (out_to (past.settled + 1) past.transcript)
 
 -- these are added to what was reported
-abbrev pub Tells : List Output → List View → List Output → Type 0
-Tells was said outputs = map view_of outputs ≡ map view_of was ++ said
+abbrev pub Reports : List Output → List View → List Output → Type 0
+Reports was said outputs = map view_of outputs ≡ map view_of was ++ said
 
 module _ {D : Type 0} {g : Ghosts D} where
   -- a connection of this number and its peer stand for these, and are tied
@@ -69,7 +69,7 @@ module _ {D : Type 0} {g : Ghosts D} where
     pub later_conn : ConnPast
     pub later : PeerPast
     pub makes : T said later_conn later
-    pub outputs_are : Tells before said outputs
+    pub outputs_are : Reports before said outputs
     pub stand : PairStands id later_conn later connection peer
 
   -- a step was refused, and left this of them
@@ -88,14 +88,14 @@ module _ {D : Type 0} {g : Ghosts D} where
         ≡ outcome ∷ unsettled (options_of past.conf) (one_out conn)
     pub later : PeerPast
     pub settles : SettlesAt id now outcome past later
-    pub outputs_are : Tells was (settled_view id now past outcome ∷ []) outputs
+    pub outputs_are : Reports was (settled_view id now past outcome ∷ []) outputs
     pub stand : PairStands id (one_out conn) later connection peer
 
   -- there was none
   pub record SettledNone (id : ℕ) (conn : ConnPast) (past : PeerPast) (was : List Output) (connection : Connection)
       (peer : Peer D g) (outputs : List Output) : Type 0 where
     pub none : unsettled (options_of past.conf) conn ≡ []
-    pub outputs_are : Tells was [] outputs
+    pub outputs_are : Reports was [] outputs
     pub stand : PairStands id conn past connection peer
 
   abbrev pub SettledNext : (more : Bool) → (id now : ℕ) → ConnPast → PeerPast → List Output → Connection → Peer D g
@@ -118,7 +118,7 @@ module _ {D : Type 0} {g : Ghosts D} where
     pub split : unsettled (options_of past.conf) conn ≡ done ++ unsettled (options_of past.conf) (all_out done conn)
     pub settles : AllSettleAt id now past done later
     pub same_conf : later.conf ≡ past.conf
-    pub outputs_are : Tells was (map (settled_view id now past) done) outputs
+    pub outputs_are : Reports was (map (settled_view id now past) done) outputs
     pub stand : PairStands id (all_out done conn) later connection peer
 
   -- all outcomes did, and none waits

@@ -86,11 +86,16 @@ pub record Plan : Type 0 where
   pub begun : Past
   pub events : List Event
   pub ends : Past → Past
-  pub tells : Past → List View
+  pub reports : Past → List View
 
 -- these events, after which nothing else happens
 abbrev pub planned : Past → List Event → (Past → List View) → Plan
-planned begun events tells = record { begun = begun; events = events; ends = λ (past : Past). past; tells = tells }
+planned begun events reports = record {
+  begun = begun;
+  events = events;
+  ends = λ (past : Past). past;
+  reports = reports;
+}
 
 -- the events of a line, after which it has its number
 abbrev pub numbered : Past → List Event → View → Plan
@@ -98,7 +103,7 @@ numbered past events said = record {
   begun = past;
   events = events;
   ends = λ (later : Past). with_last later (past.last + 1);
-  tells = λ (later : Past). said ∷ [];
+  reports = λ (later : Past). said ∷ [];
 }
 
 -- the plan of a line that is read so
@@ -172,7 +177,7 @@ pub record TakesPlan (step : Step) (past : Past) (outputs : List View) (later : 
   pub is_plan : IsPlan step past plan
   pub mid : Past
   pub does : AllDo plan.begun plan.events mid
-  pub outputs_are : outputs ≡ plan.tells mid
+  pub outputs_are : outputs ≡ plan.reports mid
   pub later_is : later ≡ plan.ends mid
 
 -- an event of a plan was refused, and those before it stand

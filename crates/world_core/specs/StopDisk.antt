@@ -1,4 +1,4 @@
--- What a call of a disk that may be stopped does (profile).
+-- What a call of a disk that may be stopped does.
 use Rattle.std.specs.Prelude.{◌≡◌, ◌⊎◌, ℕ, ◌+◌, ◌-◌, ◌^◌, min, List, ◌∷◌, Result, IsErr}
 use Rattle.disk_model.specs.Disk.{Event}
 use Rattle.disk_model.specs.InMemory.{events, faults_in, IsRefusedWhole}
@@ -27,7 +27,7 @@ abbrev pub all_faults : StopDisk → ℕ
 all_faults disk = min (own_faults disk + faults_in (beneath disk)) (2 ^ 64 - 1)
 
 -- the call is passed on: it fails only if memory is refused to the disk beneath, and then changes nothing
-pub record Passes (old new : StopDisk) (result : Result (Unit {0}) DiskFault) : Type 0 where
+pub record PassesOn (old new : StopDisk) (result : Result (Unit {0}) DiskFault) : Type 0 where
   pub whole : IsRefusedWhole (beneath old) (beneath new) result
   pub own : own_faults new ≡ own_faults old
 
@@ -39,7 +39,7 @@ pub record Reaches (event : Event) (old new : StopDisk) (result : Result (Unit {
       ⊎ ((happened new ≡ happened old) × (faults_in (beneath new) ≡ min (faults_in (beneath old) + 1) (2 ^ 64 - 1)))
 
 -- the call fails, and the disk beneath is as it was
-pub record Refuses (old new : StopDisk) (result : Result (Unit {0}) DiskFault) : Type 0 where
+pub record RefusesCall (old new : StopDisk) (result : Result (Unit {0}) DiskFault) : Type 0 where
   pub fails : IsErr result
   pub same : beneath new ≡ beneath old
   pub own : own_faults new ≡ min (own_faults old + 1) (2 ^ 64 - 1)

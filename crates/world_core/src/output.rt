@@ -7,7 +7,6 @@ use peer_queue::{Owed, Settled};
 /// What became of a line at a peer that it names.
 #[derive(Debug, Drop)]
 pub struct OwedAt {
-    /// The peer.
     pub name: PeerName,
     /// Whether it is new there.
     pub owed: Owed,

@@ -6,9 +6,7 @@ use ledger_core::Totals;
 /// What a peer has taken, answered and dropped, and what it is owed.
 #[derive(Debug, Drop)]
 pub struct PeerTotals {
-    /// The peer.
     pub name: PeerName,
-    /// Its counts.
     pub totals: Totals,
 }
 

@@ -35,7 +35,6 @@ pub enum Step {
     /// A backlog file of this peer is imported: its good lines are owed as one source, numbered after what was imported
     /// of that source before; then the source is closed, and the peer is flushed.
     Import {
-        /// The peer.
         peer: PeerName,
         /// The text of the file: lines that end in LF.
         text: Vec<u8>,

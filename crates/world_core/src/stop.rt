@@ -118,7 +118,7 @@ impl StopDisk {
     ghost use Rattle.disk_model.specs.Disk.Event.{Made, Wrote, WasCut};
     ghost use Rattle.disk_model.specs.InMemory.{held};
     ghost use Rattle.world_core.specs.StopDisk.{beneath, happened, own_faults, all_faults, rank_at};
-    ghost use Rattle.world_core.specs.StopDisk.{Passes, Reaches, Refuses};
+    ghost use Rattle.world_core.specs.StopDisk.{PassesOn, Reaches, RefusesCall};
 
     /// A disk of the tape at this rank.
     pub fn new(disk: MemDisk, rank: usize, trigger: Rc<Cell<Trigger>>) -> Self
@@ -181,10 +181,10 @@ impl StopDisk {
         ensures log { Writes at from.now (happened self.old) result (happened self.new) }
         ensures cause { CountsFaults (all_faults self.old) (all_faults self.new) result }
         ensures quiet { OnOk result (all_faults self.new ≡ all_faults self.old) }
-        ensures completes { fate ≡ Fate.Completes → Passes self.old self.new result }
+        ensures completes { fate ≡ Fate.Completes → PassesOn self.old self.new result }
         ensures stops { (choice : Choice) → fate ≡ Fate.Stops choice
             → Reaches (Wrote at from.now) self.old self.new result }
-        ensures fails { fate ≡ Fate.Fails → Refuses self.old self.new result }
+        ensures fails { fate ≡ Fate.Fails → RefusesCall self.old self.new result }
     {
         match fate {
             Fate::Completes => self.disk.write_at(at, from),
@@ -201,10 +201,10 @@ impl StopDisk {
         ensures log { Cuts len (happened self.old) result (happened self.new) }
         ensures cause { CountsFaults (all_faults self.old) (all_faults self.new) result }
         ensures quiet { OnOk result (all_faults self.new ≡ all_faults self.old) }
-        ensures completes { fate ≡ Fate.Completes → Passes self.old self.new result }
+        ensures completes { fate ≡ Fate.Completes → PassesOn self.old self.new result }
         ensures stops { (choice : Choice) → fate ≡ Fate.Stops choice
             → Reaches (WasCut len) self.old self.new result }
-        ensures fails { fate ≡ Fate.Fails → Refuses self.old self.new result }
+        ensures fails { fate ≡ Fate.Fails → RefusesCall self.old self.new result }
     {
         match fate {
             Fate::Completes => self.disk.cut(len),
@@ -220,10 +220,10 @@ impl StopDisk {
         ensures log { Syncs (happened self.old) result (happened self.new) }
         ensures cause { CountsFaults (all_faults self.old) (all_faults self.new) result }
         ensures quiet { OnOk result (all_faults self.new ≡ all_faults self.old) }
-        ensures completes { fate ≡ Fate.Completes → Passes self.old self.new result }
+        ensures completes { fate ≡ Fate.Completes → PassesOn self.old self.new result }
         ensures stops { (choice : Choice) → fate ≡ Fate.Stops choice
-            → Refuses self.old self.new result }
-        ensures fails { fate ≡ Fate.Fails → Refuses self.old self.new result }
+            → RefusesCall self.old self.new result }
+        ensures fails { fate ≡ Fate.Fails → RefusesCall self.old self.new result }
     {
         match fate {
             Fate::Completes => self.disk.sync(),

@@ -1,23 +1,23 @@
 -- After the outcomes, the connection's report follows, and its output counts as sent.
 use Rattle.std.proofs.Common.{◌∙◌, ap, length, refl, sym}
 use Rattle.world_core.proofs.Results.{if_err}
-use Rattle.world_core.proofs.OutputSent.{followed, tell_refused}
+use Rattle.world_core.proofs.OutputSent.{followed, as_refused}
 use Rattle.world_core.proofs.connection.Connection.report.Goals as goal
 
 pub returns-in_err-add_sent-clause-err : goal.returns-in_err-add_sent-clause-err
 returns-in_err-add_sent-clause-err g c = λ id conn past pair.
     if_err c.from_residual-in_err-add_sent.result _ _ c.from_residual-in_err-add_sent.ensures.1
-    (tell_refused id c.args.now conn past c.args.outputs.now.items _ _ _ (c.in_ok-settle_all.ensures.ok id conn past pair))
+    (as_refused id c.args.now conn past c.args.outputs.now.items _ _ _ (c.in_ok-settle_all.ensures.ok id conn past pair))
 
 pub returns-in_err-add_need-clause-err : goal.returns-in_err-add_need-clause-err
 returns-in_err-add_need-clause-err g c = λ id conn past pair.
     if_err c.from_residual-in_err-add_need.result _ _ c.from_residual-in_err-add_need.ensures.1
-    (tell_refused id c.args.now conn past c.args.outputs.now.items _ _ _ (c.in_ok-settle_all.ensures.ok id conn past pair))
+    (as_refused id c.args.now conn past c.args.outputs.now.items _ _ _ (c.in_ok-settle_all.ensures.ok id conn past pair))
 
 pub returns-in_err-add_closed-clause-err : goal.returns-in_err-add_closed-clause-err
 returns-in_err-add_closed-clause-err g c = λ id conn past pair.
     if_err c.from_residual-in_err-add_closed.result _ _ c.from_residual-in_err-add_closed.ensures.1
-    (tell_refused id c.args.now conn past c.args.outputs.now.items _ _ _ (c.in_ok-settle_all.ensures.ok id conn past pair))
+    (as_refused id c.args.now conn past c.args.outputs.now.items _ _ _ (c.in_ok-settle_all.ensures.ok id conn past pair))
 
 pub returns-clause-ok : goal.returns-clause-ok
 returns-clause-ok g c = λ id conn past was pair was_is.

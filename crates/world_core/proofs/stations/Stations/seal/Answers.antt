@@ -3,7 +3,7 @@ use Rattle.std.proofs.Common.{refl, inl, inr}
 use Rattle.world_core.specs.Steps.{seal_events, seal_view}
 use Rattle.world_core.specs.declared.step.Step.TheVariants.{Seal}
 use Rattle.world_core.proofs.Results.{if_err, if_err_is}
-use Rattle.world_core.proofs.TapeSteps.{barred_by, failed_by, pushed, seal_tells, took_by}
+use Rattle.world_core.proofs.TapeSteps.{barred_by, failed_by, pushed, seal_reports, took_by}
 use Rattle.world_core.proofs.stations.Stations.seal.Goals as goal
 
 pub returns-in_default-clause-err : goal.returns-in_default-clause-err
@@ -29,5 +29,5 @@ returns-clause-ok g c = λ past stands.
     let did = c.in_ok-seal_number.ensures.ok past stands sealable in
     took_by Seal past past (seal_events c.in-Some.number) seal_view _ c.seal_number.new.self
     (c.in-Some.number, sealable, refl) did
-    (seal_tells did.later c.mark-mark.result _ c.seal_number.new.self did.stands c.mark-mark.ensures
+    (seal_reports did.later c.mark-mark.result _ c.seal_number.new.self did.stands c.mark-mark.ensures
     (pushed _ _ _ c.push_reserved.ensures.items c.in_ok-outputs.ensures.items))
