@@ -268,7 +268,7 @@ pub(crate) fn closes<R: AllocGlobal + Threads + Wait + Print + Send + Sync + Dro
 ) -> Result<()> {
     let row = FeedCase::new(rt, host, "closes")?;
     row.lines(1)?;
-    println!(rt; "-- p closes three connections behind 203")?;
+    println!(rt; "-- p closes three connections after 203")?;
     let alloc = host.alloc();
     let listener = TcpListener::bind(&host, "127.0.0.1:0")?;
     let conf = format!(in alloc;

@@ -65,7 +65,7 @@ fn main(rt: HostRuntime) -> Result<()> {
     let row = FeedCase::new(&rt, rt, "end")?;
     row.lines(1)?;
     row.take(&rt, "one line, nobody listens")?;
-    row.feed(&rt, Manner::Ends, "it ends the session behind the article")?;
+    row.feed(&rt, Manner::Ends, "it ends the session after the article")?;
     row.feed(&rt, Manner::Silent, "it says nothing")?;
     row.feed(&rt, Manner::Streams, "it streams")?;
 

@@ -185,7 +185,7 @@ impl FeedCase {
             "it"
         };
         println!(rt;
-            "cut behind {octets} octets: status {}, owes {owed}",
+            "cut after {octets} octets: status {}, owes {owed}",
             output.status
         )?;
         Ok(())

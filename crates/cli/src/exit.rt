@@ -23,7 +23,6 @@ pub enum Exit {
 impl Exit {
     ghost use Rattle.cli.specs.Exit.{status_of};
 
-    /// The exit status.
     pub fn status(self) -> u8
         ensures { result ≡ status_of self }
     {

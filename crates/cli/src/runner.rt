@@ -21,7 +21,6 @@ use std::io::{self, Read, Write};
 /// How an order ended.
 #[derive(Clone, Copy)]
 pub struct Ended {
-    /// The exit status.
     pub exit: Exit,
     /// Whether its line on standard error was written; `Ok` if there was none.
     pub reported: io::Result<()>,

@@ -1,4 +1,4 @@
-// How a drill ends.
+// How a drill ends, and which of its lines or tapes was refused.
 ghost use Rattle.std.specs.Prelude.{◌≡◌};
 ghost use Rattle.drill.specs.Words.{step_words, tape_words, why_words};
 

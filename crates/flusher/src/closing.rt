@@ -31,7 +31,6 @@ use std::sync::ledger::Share;
 /// What was left of a peer when its post was closed, and what its station had counted when the post was made.
 #[derive(Drop)]
 pub struct ClosedPeer<D: Disk> {
-    /// Its name.
     pub name: PeerName,
     /// Its front and its tape, a note that was kept beside the tape, and those that its queue held.
     pub ends: Joined<D>,
@@ -44,7 +43,6 @@ pub struct ClosedPeer<D: Disk> {
 pub struct ClosedPost<D: Disk> {
     /// The peers, in the post's order.
     pub peers: Vec<ClosedPeer<D>>,
-    /// The intake tape.
     pub intake: Tape<D>,
     /// What all workers counted.
     pub sums: Sums,
@@ -62,7 +60,6 @@ pub enum CloseFault<D: Disk, N: Naming> {
 /// A post that was not closed, and the shares.
 #[derive(Drop)]
 pub struct Unclosed<D: Disk, N: Naming> {
-    /// The post.
     pub post: Post<D, N>,
     /// The intake's share.
     pub intake: IntakeShare<N>,

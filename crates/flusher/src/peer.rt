@@ -35,10 +35,9 @@ pub struct Sums {
     pub dropped: u64,
 }
 
-/// A peer's name, and its station.
+/// A peer's name, and its station. Only `open` makes one: a station that was opened elsewhere cannot go into a post.
 #[derive(Drop)]
 pub struct PostPeer<D: Disk> {
-    /// Its name.
     pub name: PeerName,
     /// All that it is owed.
     pub station: Station<D>,

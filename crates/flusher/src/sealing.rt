@@ -16,7 +16,6 @@ pub struct Receipt {
 }
 
 impl Receipt {
-    /// The number.
     pub fn number(&self) -> u64
         ensures { result ≡ self.now.number }
     {

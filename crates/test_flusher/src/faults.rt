@@ -24,7 +24,7 @@ const UNLIMITED: Limits = Limits {
 };
 
 // How many calls of the first disk a flush makes. A claim after it makes none, since the front has the texts.
-const FLUSH_CALLS: u64 = 5;
+const FLUSH_CALLS: u64 = 4;
 
 // What is counted of a peer: how much is owed and was answered, and whether a flush has failed.
 #[derive(Clone, Copy, Debug, PartialEq, Eq)]

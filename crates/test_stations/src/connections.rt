@@ -239,7 +239,7 @@ const MALICIOUS: &[ConnRow] = &[
         closed: Some(Reason::Ended(400)),
     },
     ConnRow {
-        name: "an end, and an answer behind it",
+        name: "an end, and an answer after it",
         streaming: true,
         start: CHECKED,
         steps: &[
@@ -249,7 +249,7 @@ const MALICIOUS: &[ConnRow] = &[
         closed: Some(Reason::Ended(400)),
     },
     ConnRow {
-        name: "an answer, and an end behind it",
+        name: "an answer, and an end after it",
         streaming: true,
         start: CHECKED,
         steps: &[

@@ -320,7 +320,7 @@ const ANY: &[ConnRow] = &[
         closed: Some(Reason::Ended(502)),
     },
     ConnRow {
-        name: "no permission behind a CHECK",
+        name: "no permission after a CHECK",
         streaming: true,
         start: STREAMS,
         steps: &[

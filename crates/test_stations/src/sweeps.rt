@@ -14,7 +14,7 @@ const CALLS_MAX: u64 = 1_000;
 
 // What is owed after each prefix of the notes: those of one debt, of another, of the end of the first, and of a third
 // debt.
-const FRONTS: [&[u64]; 5] = [&[], &[1], &[1, 2], &[2], &[2, 3]];
+const PREFIXES: [&[u64]; 5] = [&[], &[1], &[1, 2], &[2], &[2, 3]];
 
 type Flaky = Station<FlakyDisk<MemDisk>>;
 
@@ -174,17 +174,17 @@ fn listed(alloc: Global, disks: (MemDisk, MemDisk)) -> Result<Vec<u64>, Fail> {
 }
 
 // A station on these disks owes what was owed after a prefix of the notes, of at least and at most this many.
-fn assert_front<A: Abort>(
+fn assert_prefix<A: Abort>(
     rt: &A,
     alloc: Global,
     disks: (MemDisk, MemDisk),
     (least, most): NoteCounts,
 ) -> Result<(), Fail> {
     let listed = listed(alloc, disks)?;
-    let is_front = FRONTS.iter().enumerate().any(|(notes, owed)| least <= notes as u64
+    let is_prefix = PREFIXES.iter().enumerate().any(|(notes, owed)| least <= notes as u64
         && notes as u64 <= most
         && listed.as_slice() == *owed);
-    assert_eq!(rt; is_front, true, "{listed:?} behind {least}");
+    assert_eq!(rt; is_prefix, true, "{listed:?} after {least}");
     Ok(())
 }
 
@@ -200,7 +200,7 @@ fn meets_fault<A: Abort>(
     let counts = work(rt, alloc, &mut station)?;
     let (a, b) = station.into_disks();
     let met = 0 < a.faults() || 0 < b.faults();
-    assert_front(rt, alloc, (a.into_inner(), b.into_inner()), counts)?;
+    assert_prefix(rt, alloc, (a.into_inner(), b.into_inner()), counts)?;
     Ok(met)
 }
 
@@ -223,7 +223,7 @@ fn calls_of<A: Abort>(rt: &A, alloc: Global, second: bool) -> Result<u64, Fail> 
 // is asked for, two one that is claimed, and one all that a rotation rewrites. The opening makes one call of the second
 // disk, and the rotation eight.
 #[test]
-fn a_fault_at_any_call_leaves_a_front(rt: HostRuntime) -> Result<(), Fail> {
+fn a_fault_at_any_call_leaves_a_prefix(rt: HostRuntime) -> Result<(), Fail> {
     assert_eq!(rt; calls_of(&rt, rt.alloc(), false)?, 18);
     assert_eq!(rt; calls_of(&rt, rt.alloc(), true)?, 9);
     Ok(())

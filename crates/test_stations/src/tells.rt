@@ -202,7 +202,7 @@ const REFUSED: &[ConnRow] = &[
         closed: Some(Reason::Unmatched),
     },
     ConnRow {
-        name: "an answer for no debt, and one behind it",
+        name: "an answer for no debt, and one after it",
         streaming: true,
         start: CHECKED,
         steps: &[
@@ -259,7 +259,7 @@ const LEFT: &[ConnRow] = &[
         closed: Some(Reason::Broken),
     },
     ConnRow {
-        name: "a break behind another command's answer",
+        name: "a break after another command's answer",
         streaming: true,
         start: CHECKED,
         steps: &[

@@ -26,7 +26,7 @@ const BATCH_LINES: u64 = 256;
 #[derive(Clone, Copy)]
 struct Ran {
     // How many steps reported something.
-    told: u64,
+    reported: u64,
     // How many debts all peers are owed.
     owed: u64,
     time: Duration,
@@ -51,15 +51,15 @@ pub fn run<R: AllocGlobal + Print + Clock>(rt: &R, words: &[String]) -> Result<(
 fn small<R: AllocGlobal + Print + Clock>(rt: &R) -> Result<()> {
     let ran = taken(rt, &naming_all(rt.alloc(), 600)?)?;
     println!(rt;
-        "world_core: {} steps told, {} debts owed by four peers",
-        ran.told, ran.owed
+        "world_core: {} steps reported, {} debts owed by four peers",
+        ran.reported, ran.owed
     )?;
     let ran = owed_alone(rt, 600)?;
     println!(rt; "world_core: {} debts owed by four stations", ran.owed)?;
     let ran = taken(rt, &naming_one(rt.alloc(), 200, 100)?)?;
     println!(rt;
-        "world_core: {} steps told, {} debts owed by a hundred peers",
-        ran.told, ran.owed
+        "world_core: {} steps reported, {} debts owed by a hundred peers",
+        ran.reported, ran.owed
     )?;
     Ok(())
 }
@@ -149,7 +149,7 @@ fn taken<R: AllocGlobal + Clock>(rt: &R, text: &[u8]) -> Result<Ran> {
     let report = reported(&mut world, &steps)?;
     let time = start.elapsed(rt)?;
     Ok(Ran {
-        told: steps_told(&report),
+        reported: steps_reported(&report),
         owed: debts_owed(&report),
         time,
     })
@@ -176,10 +176,10 @@ fn refused<T>(fault: &WorldFault) -> Result<T> {
     bail!("step {} was refused: {}", fault.step, fault.kind)
 }
 
-fn steps_told(report: &Report) -> u64 {
+fn steps_reported(report: &Report) -> u64 {
     let mut count = 0u64;
-    for told in &report.lines {
-        if !told.is_empty() {
+    for reported in &report.lines {
+        if !reported.is_empty() {
             count = count.saturating_add(1);
         }
     }
@@ -213,7 +213,7 @@ fn owed_alone<R: AllocGlobal + Clock>(rt: &R, count: u64) -> Result<Ran> {
     owe_all(&mut stations, &lines)?;
     let time = start.elapsed(rt)?;
     Ok(Ran {
-        told: 0,
+        reported: 0,
         owed: owed_by(&stations),
         time,
     })

@@ -15,7 +15,7 @@ use std::env;
 
 const USAGE: &str = "usage: tool_peer PORT LOG [later=N] [close=N]
 listens on 127.0.0.1:PORT (0: any port) and appends a line `ID LENGTH` to LOG for each article that it accepts
-later=N: each N-th CHECK and IHAVE is put off by 431 or 436; close=N: a connection ends behind N articles";
+later=N: each N-th CHECK and IHAVE is put off by 431 or 436; close=N: a connection ends after N articles";
 
 fn main(rt: HostRuntime) -> Result<()> {
     let mut words = env::args(&rt)?.skip(1);
