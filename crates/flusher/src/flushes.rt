@@ -1,5 +1,5 @@
 // The flusher: the worker that puts the notes that pend on the disks.
-ghost use Rattle.std.specs.Prelude.{◌≡◌, Err, IfErr, IsSome, None, Some};
+ghost use Rattle.std.specs.Prelude.{◌≡◌, Err, IfErr, IsSome, None, OnOk, Some};
 ghost use Rattle.flusher.specs.Faults.{IsOfTape};
 
 use crate::pace::Pace;
@@ -112,7 +112,8 @@ impl<N: Naming> Flusher<N> {
         signals: &Signals,
         flushed: Result<(), PostFault>,
     ) -> Result<(), PostFault>
-        ensures { IfErr result (λ fault. flushed ≡ Err fault × (IsOfTape fault → ⊥)) }
+        ensures goes_on { OnOk result (IfErr flushed IsOfTape) }
+        ensures ends { IfErr result (λ fault. flushed ≡ Err fault × (IsOfTape fault → ⊥)) }
     {
         if let Err(fault) = flushed {
             if !fault.is_of_tape() {
