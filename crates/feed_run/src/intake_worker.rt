@@ -349,10 +349,10 @@ impl<F: AllocGlobal + Files<File = File>, W: Write, N: Naming> IntakeWorker<'_, 
         }
     }
 
-    // The status file could not be written. A run that follows its funnel reports this once.
+    // The status file could not be written. A run reports this once.
     fn keep_status_error(&mut self, error: RunError) {
         if !self.has_no_status {
-            self.has_no_status = self.stop.is_some();
+            self.has_no_status = true;
             error.add_to(&mut self.end);
         }
     }
