@@ -22,8 +22,9 @@ ignored; otherwise it is required.
 Without arguments a drill script is read from standard input.
 
 Exit status: 0 success; 1 bad configuration, malformed drill script or refused step; 2 usage error;
-3 a tape cannot be opened, or is broken, damaged or full; 4 another file or standard input cannot be read, or a
-file or standard output cannot be written; 5 out of memory, threads or system resources for sockets.";
+3 a tape cannot be opened, or is broken, damaged or full, or another innfeed works there; 4 another file cannot be
+read, written or removed, or standard input or output fails; 5 out of memory, threads or system resources for
+sockets.";
 
 /// Reads the arguments of the command line, the first of which is the program's own name.
 ///

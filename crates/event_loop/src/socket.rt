@@ -12,7 +12,7 @@ use mio::net::TcpStream;
 use mio::{Interest, Registry, Token};
 use std::io::{self, ErrorKind, Read, Write};
 
-/// A link over a TCP stream of `mio`. [`SocketLink::note`] sets what the stream is ready for, which holds until a
+/// A link over a TCP stream of `mio`. [`SocketLink::on_event`] sets what the stream is ready for, which holds until a
 /// call finds that it is not: only then does a call return `Later`.
 #[derive(Drop)]
 pub struct SocketLink {

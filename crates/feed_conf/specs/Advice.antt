@@ -58,7 +58,8 @@ foreign_text name =
     if is_login name then codes "changes the feed: innfeed does not log in to its peers" else (
     if is_source name then codes "changes the feed: the system chooses the addresses of connections" else (
     if is_growth name then codes "changes the feed: connections are opened as the queue grows" else (
-    if is_closing name then codes "changes the feed: no connection is closed for its age or for being idle" else (
+    if is_closing name
+    then codes "changes the feed: no connection closes for its age; idle ones do with --follow" else (
     if bytes_eq name (codes "no-backlog") then codes "changes the feed: what a peer does not take stays queued" else (
     if bytes_eq name (codes "backlog-feed-first")
     then codes "changes the feed: the oldest article is offered first" else (

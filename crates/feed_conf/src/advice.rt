@@ -87,7 +87,7 @@ fn foreign_effect(name: &[u8]) -> &'static [u8]
     } else if is_growth(name) {
         b"changes the feed: connections are opened as the queue grows"
     } else if is_closing(name) {
-        b"changes the feed: no connection is closed for its age or for being idle"
+        b"changes the feed: no connection closes for its age; idle ones do with --follow"
     } else if is_text(name, b"no-backlog") {
         b"changes the feed: what a peer does not take stays queued"
     } else if is_text(name, b"backlog-feed-first") {

@@ -108,7 +108,8 @@ const EXPLAINED: [(&[u8], &[u8]); 10] = [
             x.conf:3: deliver-realm: ignored; does not change the feed\n\
             x.conf:3: backlog-feed-first: ignored; changes the feed: the oldest article is offered first\n\
             x.conf:3: dynamic-method: ignored; changes the feed: connections are opened as the queue grows\n\
-            x.conf:3: close-period: ignored; changes the feed: no connection is closed for its age or for being idle\n\
+            x.conf:3: close-period: ignored; \
+            changes the feed: no connection closes for its age; idle ones do with --follow\n\
             x.conf:5: status-file: ignored; belongs outside all blocks\n\
             x.conf:6: max-queue-size: limited; the greatest value that is allowed is taken\n\
             x.conf:8: colour: ignored; innfeed.conf(5) has no such setting\n\
