@@ -1,8 +1,9 @@
 // Segments that are read, and journals at which steps are taken.
 use crate::answers::assert_answer;
 use crate::disks::{assert_faults, assert_octets, disk_of};
+use crate::planned_file::{Plan, PlannedFile};
 use crate::read_only::ReadOnly;
-use disk_model::{Disk, FlakyDisk, FuseDisk};
+use disk_model::{Disk, FileDisk, FlakyDisk, FuseDisk};
 use std::alloc::Global;
 use std::process::Abort;
 use std::test::Fail;
@@ -376,6 +377,39 @@ fn a_window_moves_to_a_records_head(rt: HostRuntime) -> Result<(), Fail> {
         }
     }
     Err(Fail::from("a part"))
+}
+
+// Whether a journal is opened, and then six octets of its first record are read, if its file passes this many calls,
+// of which each moves at most 1,024 octets.
+fn part_of_long_record(alloc: Global, segment: &[u8], calls: u64) -> Result<(bool, bool), Fail> {
+    let file = PlannedFile::new(alloc, segment, Plan::bounded(1_024, calls))?;
+    let Ok((_, mut journal)) = opened(alloc, FileDisk::new(file)) else {
+        return Ok((false, false));
+    };
+    match journal.part_at(0, 65_000, 6) {
+        Ok(part) => Ok((true, part.len() == 6)),
+        Err(ReadFault::NoMemory) => Err(Fail::from(ReadFault::NoMemory)),
+        Err(_) => Ok((true, false)),
+    }
+}
+
+// Three calls more than the opening takes read a part, where the whole payload would take 64.
+#[test]
+fn a_part_costs_no_whole_payload(rt: HostRuntime) -> Result<(), Fail> {
+    let alloc = rt.alloc();
+    let mut segment = Vec::new(alloc);
+    segment.extend_from_slice(&[0xa5, 0, 1, 0, 0])?;
+    segment.extend_from_slice(&vec![in alloc; 7u8; 65_536]?)?;
+    segment.push(0)?;
+    for calls in 0..200 {
+        let (is_open, _) = part_of_long_record(alloc, &segment, calls)?;
+        if is_open {
+            let read = part_of_long_record(alloc, &segment, calls + 3)?;
+            assert_answer(&rt, 0, &read, &(true, true));
+            return Ok(());
+        }
+    }
+    Err(Fail::from("a journal"))
 }
 
 #[test]

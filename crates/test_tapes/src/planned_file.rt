@@ -29,6 +29,16 @@ impl Plan {
         }
     }
 
+    // A call moves at most this many octets, and the one after this many fails.
+    pub(crate) fn bounded(piece: usize, calls: u64) -> Self {
+        Plan {
+            piece,
+            interruptions: 0,
+            fails: Some(calls),
+            kept: 0,
+        }
+    }
+
     // The call after this many fails, and keeps this much.
     pub(crate) fn failing(calls: u64, kept: usize) -> Self {
         Plan {
