@@ -6,7 +6,7 @@ ghost use Rattle.conn_core.specs.History.{Event, reason};
 ghost use Rattle.conn_core.specs.Stands.{StandsFor};
 ghost use Rattle.conn_core.specs.declared.reason.Reason.{Reason};
 ghost use Rattle.world_core.specs.Past.{ConnPast, PeerPast, options_of};
-ghost use Rattle.world_core.specs.Pairs.{Tells, left_at};
+ghost use Rattle.world_core.specs.Pairs.{Reports, left_at};
 ghost use Rattle.world_core.specs.Stands.{WaitsWith};
 ghost use Rattle.world_core.specs.Output.{SentLine, closed_view, lines_in, need_view};
 
@@ -348,7 +348,7 @@ fn copy_of(found: &Found) -> Result<Found, AllocError>
 
 // Reports each line of the output.
 fn add_sent(outputs: &mut Vec<Output>, connection: u64, output: &[u8]) -> Result<(), AllocError>
-    ensures { OnOk result (Tells outputs.old.items
+    ensures { OnOk result (Reports outputs.old.items
         (map (SentLine connection) (lines_in output.now)) outputs.new.items) }
 {
     let alloc = *outputs.allocator();
@@ -362,7 +362,7 @@ fn add_sent(outputs: &mut Vec<Output>, connection: u64, output: &[u8]) -> Result
 }
 
 fn add_need(outputs: &mut Vec<Output>, connection: u64, need: Option<Key>) -> Result<(), AllocError>
-    ensures { OnOk result (Tells outputs.old.items (need_view connection need) outputs.new.items) }
+    ensures { OnOk result (Reports outputs.old.items (need_view connection need) outputs.new.items) }
 {
     if let Some(key) = need {
         outputs.push(Output::Need { connection, key })?;
@@ -378,7 +378,7 @@ fn add_closed(
     closed: Option<Reason>,
 ) -> Result<(), AllocError>
     ensures { (was : Option Reason) → was_open ≡ is_none was → OnOk result
-        (Tells outputs.old.items (closed_view connection was closed) outputs.new.items) }
+        (Reports outputs.old.items (closed_view connection was closed) outputs.new.items) }
 {
     if was_open && let Some(reason) = closed {
         outputs.push(Output::Closed { connection, reason })?;
