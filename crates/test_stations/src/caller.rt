@@ -6,8 +6,9 @@ use crate::shared::{
 use conn_core::{Conn, CxnId, Outcome};
 use disk_model::{Disk, FuseDisk, MemDisk};
 use funnel::{MsgId, Token};
-use ledger_core::{Cause, Debt, Key, Totals};
+use ledger_core::{Cause, Debt, FinalCode, Key, Totals};
 use peer_queue::{Limits, Owed, Settled, Shed, Station, StationFault, key_in, reopened};
+use recovery::TapeFault;
 use std::alloc::Global;
 use std::process::Abort;
 use std::test::Fail;
@@ -28,7 +29,17 @@ pub(crate) const SMALL: Limits = Limits {
     drop_deferred: false,
 };
 
+pub(crate) const DROPPING: Limits = Limits {
+    backlog_limit: 0,
+    backlog_high: 0,
+    drop_deferred: true,
+};
+
 pub(crate) const NOT_HELD: StationFault = StationFault::NotHeld;
+
+pub(crate) const FULL: StationFault = StationFault::Tape(TapeFault::PendingFull);
+
+pub(crate) const NOT_WANTED: Settled = Settled::Answered(FinalCode::CheckNotWanted);
 
 // How many calls of the first disk the opening of a tape makes that owes three debts there: two reads of its beginning,
 // one of all of it, and a sync, a cut, a sync, a write and a sync.
@@ -507,7 +518,7 @@ fn send<A: Abort>(
 }
 
 // What a connection makes of this debt after this line of the peer's, and after the article if the peer wants it.
-fn answered<A: Abort>(
+pub(crate) fn answered<A: Abort>(
     rt: &A,
     alloc: Global,
     place: RowPlace,

@@ -14,6 +14,8 @@ mod connections;
 #[cfg(test)]
 mod exchange;
 #[cfg(test)]
+mod front_caller;
+#[cfg(test)]
 mod fronts;
 #[cfg(test)]
 mod reopenings;

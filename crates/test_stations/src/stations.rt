@@ -1,13 +1,12 @@
 // Scripts of stations. Each debt has ten octets.
 use crate::caller::{
-    NOT_HELD, ONE, OTHER, Reopening, SMALL, StationScript, StationStep, UNLIMITED, begin, play,
-    play_script, play_scripts,
+    DROPPING, FULL, NOT_HELD, NOT_WANTED, ONE, OTHER, Reopening, SMALL, StationScript, StationStep,
+    UNLIMITED, begin, play, play_script, play_scripts,
 };
 use crate::shared::SOURCE;
 use conn_core::CxnId;
-use ledger_core::{Cause, FinalCode};
-use peer_queue::{Limits, Owed, Settled, StationFault, deferred_until};
-use recovery::TapeFault;
+use ledger_core::Cause;
+use peer_queue::{Limits, Owed, Settled, deferred_until};
 use std::alloc::Global;
 use std::process::Abort;
 use std::test::Fail;
@@ -17,16 +16,6 @@ const PENDING_MAX_NOTES: u64 = 65536;
 
 // Room for two more notes.
 const NEARLY_FULL_NOTES: u64 = 65534;
-
-const FULL: StationFault = StationFault::Tape(TapeFault::PendingFull);
-
-const NOT_WANTED: Settled = Settled::Answered(FinalCode::CheckNotWanted);
-
-const DROPPING: Limits = Limits {
-    backlog_limit: 0,
-    backlog_high: 0,
-    drop_deferred: true,
-};
 
 // When the station is nearly full, five debts exceed the limit.
 const JUST_ABOVE: Limits = Limits {
