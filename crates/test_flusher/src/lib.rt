@@ -22,6 +22,8 @@ mod reads;
 #[cfg(test)]
 mod rooms;
 #[cfg(test)]
+mod rotations;
+#[cfg(test)]
 mod shared;
 #[cfg(test)]
 mod threads;

@@ -32,6 +32,9 @@ const UNLIMITED: Limits = Limits {
 // How many calls of its first disk the opening of a station with empty disks makes.
 const OPENING_CALLS: u64 = 5;
 
+// And how many of its second disk.
+const SECOND_OPENING_CALLS: u64 = 1;
+
 // And the flush of one debt from a backlog file.
 const BACKLOG_FLUSH_CALLS: u64 = 4;
 
@@ -158,6 +161,19 @@ pub(crate) fn fused_peer(
 {
     let first = fused(alloc, calls.saturating_add(OPENING_CALLS));
     peer_on(alloc, name, (first, fused(alloc, u64::MAX)), limits)
+}
+
+// The same, but the calls are of its second disk.
+pub(crate) fn fused_second_peer(
+    alloc: Global,
+    name: &[u8],
+    limits: Limits,
+    calls: u64,
+) -> Result<PostPeer<FuseDisk<MemDisk>>, Fail>
+    ensures { IfOk result (λ p. IsFlushed p.station) }
+{
+    let second = fused(alloc, calls.saturating_add(SECOND_OPENING_CALLS));
+    peer_on(alloc, name, (fused(alloc, u64::MAX), second), limits)
 }
 
 fn fused(alloc: Global, calls: u64) -> FuseDisk<MemDisk> {
