@@ -1,4 +1,4 @@
--- What a call of a disk that may be stopped does.
+-- What a call of a disk that may be stopped does (profile).
 use Rattle.std.specs.Prelude.{◌≡◌, ◌⊎◌, ℕ, ◌+◌, ◌-◌, ◌^◌, min, List, ◌∷◌, Result, IsErr}
 use Rattle.disk_model.specs.Disk.{Event}
 use Rattle.disk_model.specs.InMemory.{events, faults_in, IsRefusedWhole}

@@ -362,7 +362,8 @@ fn add_sent(outputs: &mut Vec<Output>, connection: u64, output: &[u8]) -> Result
 }
 
 fn add_need(outputs: &mut Vec<Output>, connection: u64, need: Option<Key>) -> Result<(), AllocError>
-    ensures { OnOk result (Reports outputs.old.items (need_view connection need) outputs.new.items) }
+    ensures { OnOk result (Reports outputs.old.items
+        (need_view connection need) outputs.new.items) }
 {
     if let Some(key) = need {
         outputs.push(Output::Need { connection, key })?;
