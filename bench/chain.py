@@ -1,7 +1,7 @@
 #!/usr/bin/env python3
 """What bench/chain.sh needs beside innd: something that offers articles, a silent peer, and the seconds of the logs.
 
-    chain.py offer PORT COUNT PAUSE OCTETS   offers so many articles to the server at this port, each so many seconds
+    chain.py offer PORT COUNT PAUSE OCTETS   offers COUNT articles to the server at this port, each PAUSE seconds
                                              after the one before; with PAUSE 0 all at once
     chain.py silent                          prints its port; greets, takes every command and article, answers none
     chain.py watch FUNNEL                    prints when each message-id is in the funnel, a file or a directory

@@ -2,9 +2,9 @@
 # chain.sh [ARTICLES [BURST [THIRD ..]]]: the whole way of an article from one innd to another, where Debian's inn2 and
 # python3 are installed: innd's file feed, examples/service/take-from-innd, innfeed --follow --tidy, and the other innd.
 # Beside it INN's own innfeed feeds the same articles, as a channel feed of the first innd, to a third one.
-#   - so many articles (300), one a second: the seconds from the moment the first innd accepts an article to the moment
+#   - ARTICLES articles (300), one a second: the seconds from the moment the first innd accepts an article to the moment
 #     the other does, by the logs of both;
-#   - so many (10,000) at once: when the first and when the last is there, counted from the first that was accepted.
+#   - BURST articles (10,000) at once: when the first and when the last is there, counted from the first that was accepted.
 #     Ours and INN's take turns at that.
 # Each alone, and beside one more peer that refuses connections, whose host drops packets (as root, who can make a
 # network of its own), or that greets and never answers a command; with the words none, refuses, drops and silent it does
@@ -195,7 +195,7 @@ begin() {
 }
 # complaints: what take-from-innd and innfeed have told besides how far they are.
 complaints() { { grep -v '^taken ' feed/told; cat feed/take.said; } 2>/dev/null | head -n 5 | sed 's/^/  told: /' || true; }
-# arrive SECONDS COUNT NAME ..: waits until these have so many articles, at most so many seconds behind the last.
+# arrive SECONDS COUNT NAME ..: waits until these have COUNT articles, at most SECONDS seconds after the last.
 arrive() {
   local name before=-1 now still=0
   while [ "$still" -lt "$1" ]; do

@@ -16,7 +16,7 @@ run=$(mktemp -d -p "${1:-${TMPDIR:-/tmp}}")
 trap 'rm -rf "$run"' EXIT
 cc -O2 -o "$run/flushes" "$top/bench/flushes.c"
 
-# flushed PROGRAM COUNT NOTES: times so many flushes of the program, and the same of the plain one for as many octets.
+# flushed PROGRAM COUNT NOTES: times COUNT flushes of the program, and the same of the plain one for as many octets.
 flushed() {
   "$1" disk_model flush "$run" "$2" "$3" >>"$run/$1"
   "$run/flushes" "$run/plain" "$2" $(($(stat -c %s "$run/bench~a") / $2)) >>"$run/$1.plain"

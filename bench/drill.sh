@@ -1,12 +1,12 @@
 #!/usr/bin/env bash
-# How the time of a drill grows with its lines: 200,000 lines against 20,000, for two peers, with a flush behind each
+# How the time of a drill grows with its lines: 200,000 lines against 20,000, for two peers, with a flush after each
 # 10,000 lines, and a stop and a restart at the end; the best of three runs each. Linear growth is 10. It fails on no ratio.
 . "$(dirname "$(readlink -f "${BASH_SOURCE[0]}")")/lib.sh"
 build innfeed
 folder=$(mktemp -d)
 trap 'rm -rf "$folder"' EXIT
 
-# script LINES: a drill of so many lines.
+# script LINES: a drill of LINES lines.
 script() {
   awk -v lines="$1" 'BEGIN {
     print "peer one.example"; print "peer two.example"

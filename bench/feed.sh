@@ -2,7 +2,7 @@
 # feed.sh [ARTICLES [RUNS [PART ..]]]: how fast articles (20,000; of 32 KiB a quarter as many) get to a peer in memory
 # (bench/sink.c, built by cc). The parts are, all of them if none is named:
 #   rates: articles a second between the peer's first and its last, of 1, 4 and 32 KiB over 1, 2 and 4 connections, each
-#     the best of so many runs (2): from a backlog (-x), and from a funnel with its durable flushes. Where Debian's inn2
+#     the best of RUNS runs (2): from a backlog (-x), and from a funnel with its durable flushes. Where Debian's inn2
 #     is installed INN's innfeed works off the same articles from a backlog file in the same run, and the ratios are ours
 #     to its; elsewhere the articles a second stand alone. Beside them the time of an fdatasync in the same minute;
 #   before: the same without INN's, if $BEFORE names another checkout of this repository, in which the program is built:
@@ -26,7 +26,7 @@ cd "$run"
 
 # from_funnel PROGRAM CONNECTIONS: its rate.
 from_funnel() {
-  anew
+  cleared
   listen
   settings "$2" "${ports[@]}"
   timed "$1" -c conf funnel.1
@@ -34,7 +34,7 @@ from_funnel() {
 }
 # from_backlog PROGRAM CONNECTIONS: its rate, once all is owed to a peer that could not be reached.
 from_backlog() {
-  anew
+  cleared
   settings "$2" 1
   "$1" -c conf funnel.1 >told 2>&1
   listen

@@ -1,5 +1,5 @@
 # What the scripts share that feed articles to a peer in memory (bench/sink.c, built by cc), by our innfeed and by INN's;
-# each sources it behind lib.sh, in a folder of its own, whose path is $run. $count is the number of articles.
+# each sources it after lib.sh, in a folder of its own, whose path is $run. $count is the number of articles.
 
 # INN's innfeed, where Debian's inn2 is installed.
 inn=/usr/lib/news/bin/innfeed
@@ -28,7 +28,7 @@ pathspool: "$run"
 patharticles: "$run/articles"
 END
 
-# articles SIZE COUNT: sets count; so many articles of about so many octets, a batch of them for INN's innfeed, and
+# articles SIZE COUNT: sets count; COUNT articles of about SIZE octets, a batch of them for INN's innfeed, and
 # funnels of them for ours: for the peer p1, and for p1 to p4.
 articles() {
   count=$2
@@ -46,7 +46,7 @@ articles() {
   }'
 }
 
-# listen [PEERS]: so many peers (1), each of which answers after $late milliseconds (0); `sinks` has their processes, and
+# listen [PEERS]: PEERS peers (1), each of which answers after $late milliseconds (0); `sinks` has their processes, and
 # `ports` their ports.
 listen() {
   local peer
@@ -87,8 +87,8 @@ timed() {
   { time "$@" >told 2>&1 </dev/null; } 2>times || true
 }
 
-# anew: an empty backlog directory.
-anew() { rm -rf backlog && mkdir backlog; }
+# cleared: an empty backlog directory.
+cleared() { rm -rf backlog && mkdir backlog; }
 
 # settings CONNECTIONS PORT ..: a configuration for ours, with a peer at each port.
 settings() {
@@ -105,7 +105,7 @@ settings() {
 
 # from_inn CONNECTIONS: the rate of INN's innfeed, which works off a backlog file.
 from_inn() {
-  anew
+  cleared
   cp batch backlog/p1
   listen
   cat >conf <<END

@@ -1,11 +1,11 @@
 #!/usr/bin/env bash
 # imports.sh [LINES [RUNS]]: what the lines of a backlog file cost beside those of a funnel, each in a
 # whole run of the program whose only peer cannot be reached. It prints
-#   how long a run takes that takes in so many lines (1,000,000) from a backlog file, as a ratio to
-#     one that reads as many from a funnel (aim: at most 1.3), the best of so many runs of each (3),
+#   how long a run takes that takes in LINES lines (1,000,000) from a backlog file, as a ratio to
+#     one that reads as many from a funnel (aim: at most 1.3), the best of RUNS runs of each (3),
 #     by turns, and
 #   how many octets of memory a debt takes in the whole program, from either: the most memory of a
-#     run with so many lines, less that of a run with a tenth of them.
+#     run with LINES lines, less that of a run with a tenth of them.
 #
 # $BEFORE may name another checkout of this repository, in which the program is built. It runs by the
 # same turns, and it is printed how many times its time and its octets of memory a debt ours are (aim
@@ -27,7 +27,7 @@ status-file: "$run/status"
 peer p { ip-name: 127.0.0.1 port-number: 1 }
 END
 
-# written COUNT: a funnel of so many lines, and a backlog file of the same debts.
+# written COUNT: a funnel of COUNT lines, and a backlog file of the same debts.
 written() {
   awk -v count="$1" 'BEGIN {
     for (n = 1; n <= count; n++) {

@@ -1,7 +1,7 @@
 #!/usr/bin/env bash
 # latency.sh [FLUSHES [DIRECTORY]]: how long calls take that begin while their peer's tape is flushed
 # (crates/tool_latency). Over files of a new directory in this one, or in that of temporary files, a post of two peers is
-# kept at work until so many flushes (40) have ended, on a disk on which a flush of a tape takes 5, 20 and 100 ms longer,
+# kept at work until FLUSHES flushes (40) have ended, on a disk on which a flush of a tape takes 5, 20 and 100 ms longer,
 # half of that in each of its two syncs (bench/slow_disk.c, built by cc). One worker takes a line each 100 us, one claims
 # the debts of the first peer, whose texts its front holds, and finishes them, and one tries to claim debts of the second
 # that only the tape has. Of the calls that begin beside such a flush it prints the time that 99 of 100 kept within, as a

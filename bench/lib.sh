@@ -21,7 +21,7 @@ built() {
   fi
 }
 
-# processor TIMES COMMAND ..: the same of the processor time that one of so many runs takes, its start included.
+# processor TIMES COMMAND ..: the same of the processor time that one of TIMES runs takes, its start included.
 processor() {
   local TIMEFORMAT='%3U %3S' times=$1 run
   shift
@@ -29,7 +29,7 @@ processor() {
     awk -v times="$times" '{ printf "%d runs %.0f nanoseconds\n", times, 1e9 * ($1 + $2) / times }'
 }
 
-# best RUNS COMMAND ..: the least nanoseconds of so many runs of a command that prints as `bench` does.
+# best RUNS COMMAND ..: the least nanoseconds of RUNS runs of a command that prints as `bench` does.
 best() {
   local runs=$1 run
   shift

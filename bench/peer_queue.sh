@@ -6,7 +6,7 @@
 #   defer: each debt is owed, claimed, deferred, and claimed again once its moment has passed.
 # The trees have at most 17 levels in place of 14: the steps alone would make a ratio of about 1.2. The aim is under 1.5.
 # Then the same from 200,000 debts to 2,000,000 that are above the limit of a backlog and are all shed, by as many calls
-# as it takes, each with a flush behind it; the aim is under 1.5 too.
+# as it takes, each with a flush after it; the aim is under 1.5 too.
 # Then the time in which 1,000,000 lines of the funnel and 100,000 of 1,000 backlog files are
 # claimed, all of them owed and flushed before, as a ratio to that of as many lines of which the
 # 100,000 are of one backlog file, the best of three runs each, by turns. The aim is under 1.3.

@@ -36,7 +36,7 @@ parts=("${@:2}")
 run=$(mktemp -d -p "${1:-${TMPDIR:-/tmp}}")
 trap 'rm -rf "$run"' EXIT
 
-# ten_openings PROGRAM NOTES: the processor time of ten openings of a tape of so many notes.
+# ten_openings PROGRAM NOTES: the processor time of ten openings of a tape of NOTES notes.
 ten_openings() { echo $(($(best 5 processor 1 "$1" recovery open "$2" 11) - $(best 5 processor 1 "$1" recovery open "$2" 1))); }
 
 # asked DEBTS: the time of asking.
@@ -51,7 +51,7 @@ kibibytes() { "$@" | awk '{ print $4 }'; }
 # per DEBTS KIBIBYTES: octets a debt.
 per() { awk -v debts="$1" -v memory="$2" 'BEGIN { printf "%.0f", 1024 * memory / debts }'; }
 
-# on_disk DEBTS: octets of the tape's file for each of so many debts.
+# on_disk DEBTS: octets of the tape's file for each of DEBTS debts.
 on_disk() { awk -v octets="$(stat -c %s "$run/bench~a")" -v debts="$1" 'BEGIN { printf "%.2f", octets / debts }'; }
 
 growth() {
@@ -97,7 +97,7 @@ memory() {
       debts, time / 1e9, 1024 * memory / debts, 1024 * memory / debts / held, commit }'
 }
 
-# by_turns RUNS COMMAND: runs it with each program so many times, by turns. It adds its figures to the files
+# by_turns RUNS COMMAND: runs it with each program RUNS times, by turns. It adds its figures to the files
 # PROGRAM.WHAT.
 by_turns() {
   local turn

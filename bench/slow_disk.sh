@@ -1,6 +1,6 @@
 #!/usr/bin/env bash
 # slow_disk.sh [LINES [RUNS [PART ..]]]: how fast the lines of a funnel (20,000) are taken, and their articles delivered,
-# if each sync of a file takes 5 ms longer (bench/slow_disk.c, built by cc); each is the best of so many runs (3). The
+# if each sync of a file takes 5 ms longer (bench/slow_disk.c, built by cc); each is the best of RUNS runs (3). The
 # parts are, all of them if none is named:
 #   peers: with one peer and with four, each in memory (bench/sink.c) and with two connections, where each line names
 #     all peers and its article has 1 KiB: how many lines a second are taken, from the start of the program to its last
@@ -28,7 +28,7 @@ cc -O2 -shared -fPIC -o slow_disk.so "$top/bench/slow_disk.c"
 
 surroundings=(SYNC_MS=5 LD_PRELOAD="$run/slow_disk.so")
 
-# per_second BEGAN ENDED: so many lines a second, between these microseconds.
+# per_second BEGAN ENDED: the lines a second between these microseconds.
 per_second() { echo $((count * 1000000 / ($2 - $1))); }
 
 # now: the microsecond that it is.
@@ -37,7 +37,7 @@ now() { echo "${EPOCHREALTIME/[.,]/}"; }
 # fed CHECKOUT PEERS NAME: one run; its lines a second go to NAME.taken and NAME.whole.
 fed() {
   local began word number
-  anew
+  cleared
   listen "$2"
   settings 2 "${ports[@]}"
   rm -f taken
@@ -92,7 +92,7 @@ beside_inn() {
     for connections in 1 2 4; do
       rm -f ours inns
       for ((turn = 0; turn < runs; turn++)); do
-        anew
+        cleared
         listen
         settings "$connections" "${ports[@]}"
         timed env "${surroundings[@]}" "$top/crates/innfeed/out/innfeed" -c conf funnel.1

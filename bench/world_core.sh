@@ -1,7 +1,7 @@
 #!/usr/bin/env bash
 # How long a world takes for funnel lines, the best of five runs each. The reading of the script and
 # the making of the world are in no time. It prints
-#   the growth from 10,000 lines to 100,000, each of which names all four peers, with a flush behind
+#   the growth from 10,000 lines to 100,000, each of which names all four peers, with a flush after
 #     each 256 (aim: under 11),
 #   the time of 100,000 of them beside that of the stations alone, which owe the same lines with as
 #     many flushes (aim: under 1.5), and beside that with the reading of the lines, and

@@ -1,4 +1,4 @@
-"""tape_reader: reads tapes anew, by docs/FORMATS.md and docs/RULES.md alone, to compare the program with.
+"""tape_reader: reads tapes by docs/FORMATS.md and docs/RULES.md alone, to compare the program with.
 
 A module of check-imports and check-tapes. It shares nothing with the program but those two pages.
 """
