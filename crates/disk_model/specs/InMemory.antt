@@ -7,7 +7,7 @@ use Rattle.disk_model.specs.Memory.{log_of}
 
 -- what has happened to it
 abbrev pub events : MemDisk → List Event
-events disk = log_of disk.moments.items
+events disk = log_of disk.history.items
 
 -- what it holds
 abbrev pub held : MemDisk → List ℕ

@@ -17,11 +17,11 @@ event_of Sync = Synced
 -- the log with these events after it
 abbrev pub logged : List Event → List DiskEvent → List Event
 logged past [] = past
-logged past (moment ∷ moments) = logged (event_of moment ∷ past) moments
+logged past (event ∷ history) = logged (event_of event ∷ past) history
 
 -- the log that the kept events make
 abbrev pub log_of : List DiskEvent → List Event
-log_of moments = logged [] moments
+log_of history = logged [] history
 
 -- whether the content is the only image from this event on
 abbrev pub is_settling : DiskEvent → Bool

@@ -18,66 +18,66 @@ use std::alloc::Global;
 pub struct MemDisk {
     alloc: Global,
     octets: Vec<u8>,
-    moments: Vec<DiskEvent>,
+    history: Vec<DiskEvent>,
     faults: u64,
-    ghost content_is: { octets.items ≡ content (log_of moments.items) },
+    ghost content_is: { octets.items ≡ content (log_of history.items) },
 }
 
 #[tactic(auto, using(crate::proofs::Kept::logged_push))]
-fn keep(moments: &mut Vec<DiskEvent>, moment: DiskEvent) -> Result<(), NoMemory>
+fn keep(history: &mut Vec<DiskEvent>, event: DiskEvent) -> Result<(), NoMemory>
     ensures ok { OnOk result
-        (log_of moments.new.items ≡ event_of moment ∷ log_of moments.old.items) }
-    ensures unchanged { OnErr result (moments.new.items ≡ moments.old.items) }
-    ensures full { OnErr result (vec_capacity moments.old ≤ vec_len moments.old) }
+        (log_of history.new.items ≡ event_of event ∷ log_of history.old.items) }
+    ensures unchanged { OnErr result (history.new.items ≡ history.old.items) }
+    ensures full { OnErr result (vec_capacity history.old ≤ vec_len history.old) }
 {
-    moments.push(moment)?;
+    history.push(event)?;
     Ok(())
 }
 
 // How many events there are up to the last that left a single image; 0 if there is none.
-fn settled_count(moments: &[DiskEvent]) -> usize
-    ensures within { result ≤ length moments.now }
-    ensures settled { IsSettled (log_of (take result moments.now)) }
-    ensures rest { AllWithin (λ moment. is_settling moment ≡ false) moments.now result
-        (length moments.now) }
+fn settled_count(history: &[DiskEvent]) -> usize
+    ensures within { result ≤ length history.now }
+    ensures settled { IsSettled (log_of (take result history.now)) }
+    ensures rest { AllWithin (λ event. is_settling event ≡ false) history.now result
+        (length history.now) }
 {
     let mut count = 0;
-    for (i, moment) in moments.iter().enumerate() {
-        if moment.is_settling() {
+    for (i, event) in history.iter().enumerate() {
+        if event.is_settling() {
             count = i + 1;
         }
     }
     count
 }
 
-fn content_after(alloc: Global, moments: &[DiskEvent]) -> Result<Vec<u8>, NoMemory>
-    ensures { IfOk result (λ octets. octets.items ≡ content (log_of moments.now)) }
+fn content_after(alloc: Global, history: &[DiskEvent]) -> Result<Vec<u8>, NoMemory>
+    ensures { IfOk result (λ octets. octets.items ≡ content (log_of history.now)) }
 {
     let mut octets = Vec::new(alloc);
-    for moment in moments {
-        moment.redo(&mut octets)?;
+    for event in history {
+        event.redo(&mut octets)?;
     }
     Ok(octets)
 }
 
 // Does to an image what the choice has for each of these operations, all of which came after the last sync.
 fn leave_each(image: &mut Vec<u8>, waiting: &[DiskEvent], choice: Choice) -> Result<(), NoMemory>
-    requires { All (λ moment. is_settling moment ≡ false) waiting.now }
+    requires { All (λ event. is_settling event ≡ false) waiting.now }
     ensures { OnOk result ((log : List Event) → pending log ≡ 0
         → image.old.items ≡ chosen_image choice log
         → image.new.items ≡ chosen_image choice (logged log waiting.now)) }
 {
-    for (number, moment) in waiting.iter().enumerate() {
-        moment.leave(image, choice, number)?;
+    for (number, event) in waiting.iter().enumerate() {
+        event.leave(image, choice, number)?;
     }
     Ok(())
 }
 
 // The image that this choice names after these events.
-fn image_after(alloc: Global, moments: &[DiskEvent], choice: Choice) -> Result<Vec<u8>, NoMemory>
-    ensures { IfOk result (λ image. image.items ≡ chosen_image choice (log_of moments.now)) }
+fn image_after(alloc: Global, history: &[DiskEvent], choice: Choice) -> Result<Vec<u8>, NoMemory>
+    ensures { IfOk result (λ image. image.items ≡ chosen_image choice (log_of history.now)) }
 {
-    let (settled, waiting) = moments.split_at(settled_count(moments));
+    let (settled, waiting) = history.split_at(settled_count(history));
     let mut image = content_after(alloc, settled)?;
     leave_each(&mut image, waiting, choice)?;
     Ok(image)
@@ -91,13 +91,13 @@ impl Disk for MemDisk {
 
     ghost honest = { λ _. Unit {0} };
 
-    ghost log = { λ m. log_of m.moments.items };
+    ghost log = { λ m. log_of m.history.items };
 
     ghost size = { λ m. length m.octets.items };
 
     ghost faults_of = { λ m. m.faults };
 
-    ghost content_is_image = { λ m _. content_among_images m.moments.items };
+    ghost content_is_image = { λ m _. content_among_images m.history.items };
 
     fn len(&self) -> u64 {
         self.octets.len() as u64
@@ -154,7 +154,7 @@ impl Disk for MemDisk {
         ensures quiet { OnOk result (faults_in self.new ≡ faults_in self.old) }
         ensures unchanged { IsRefusedWhole self.old self.new result }
     {
-        match keep(&mut self.moments, DiskEvent::Sync) {
+        match keep(&mut self.history, DiskEvent::Sync) {
             Ok(()) => Ok(()),
             Err(_) => Err(self.fault()),
         }
@@ -174,7 +174,7 @@ impl MemDisk {
         MemDisk {
             alloc,
             octets: Vec::new(alloc),
-            moments: Vec::new(alloc),
+            history: Vec::new(alloc),
             faults: 0,
         }
     }
@@ -189,7 +189,7 @@ impl MemDisk {
     {
         let first = DiskEvent::Began(Vec::from_slice(alloc, octets)?);
         let mut disk = MemDisk::new(alloc);
-        keep(&mut disk.moments, first)?;
+        keep(&mut disk.history, first)?;
         disk.octets = Vec::from_slice(alloc, octets)?;
         Ok(disk)
     }
@@ -209,14 +209,14 @@ impl MemDisk {
             (chosen_image choice (⟦<MemDisk as Disk>⟧.log self.now)) }
         ensures faults { IfOk result (λ left. ⟦<MemDisk as Disk>⟧.faults_of left ≡ 0) }
     {
-        let octets = image_after(self.alloc, &self.moments, choice)?;
+        let octets = image_after(self.alloc, &self.history, choice)?;
         MemDisk::holding(self.alloc, &octets)
     }
 
     fn fault(&mut self) -> DiskFault
         ensures faults { self.new.faults ≡ min (self.old.faults + 1) (2 ^ 64 - 1) }
         ensures later { self.old.faults ≤ self.new.faults }
-        ensures moments { self.new.moments ≡ self.old.moments }
+        ensures history { self.new.history ≡ self.old.history }
     {
         self.faults = self.faults.saturating_add(1);
         DiskFault
@@ -226,27 +226,27 @@ impl MemDisk {
     fn try_write(&mut self, at: u64, from: &[u8]) -> Result<(), NoMemory>
         requires { at ≤ length self.old.octets.items }
         ensures ok { OnOk result
-            (log_of self.new.moments.items ≡ Wrote at from.now ∷ log_of self.old.moments.items) }
+            (log_of self.new.history.items ≡ Wrote at from.now ∷ log_of self.old.history.items) }
         ensures unchanged { OnErr result
-            (log_of self.new.moments.items ≡ log_of self.old.moments.items) }
+            (log_of self.new.history.items ≡ log_of self.old.history.items) }
         ensures faults { self.new.faults ≡ self.old.faults }
     {
         let octets = Vec::from_slice(self.alloc, from)?;
-        self.moments.reserve(1)?;
+        self.history.reserve(1)?;
         overwrite(&mut self.octets, at as usize, from)?;
-        keep(&mut self.moments, DiskEvent::Write { at, octets })?;
+        keep(&mut self.history, DiskEvent::Write { at, octets })?;
         Ok(())
     }
 
     fn try_cut(&mut self, len: u64) -> Result<(), NoMemory>
         requires { len ≤ length self.old.octets.items }
         ensures ok { OnOk result
-            (log_of self.new.moments.items ≡ WasCut len ∷ log_of self.old.moments.items) }
+            (log_of self.new.history.items ≡ WasCut len ∷ log_of self.old.history.items) }
         ensures unchanged { OnErr result
-            (log_of self.new.moments.items ≡ log_of self.old.moments.items) }
+            (log_of self.new.history.items ≡ log_of self.old.history.items) }
         ensures faults { self.new.faults ≡ self.old.faults }
     {
-        keep(&mut self.moments, DiskEvent::Cut { len })?;
+        keep(&mut self.history, DiskEvent::Cut { len })?;
         self.octets.truncate(len as usize);
         Ok(())
     }

@@ -250,7 +250,7 @@ impl Disk for StopDisk {
 
     ghost faults_of = { λ d. min (d.faults + faults_in d.disk) (2 ^ 64 - 1) };
 
-    ghost content_is_image = { λ d _. content_among_images d.disk.moments.items };
+    ghost content_is_image = { λ d _. content_among_images d.disk.history.items };
 
     fn len(&self) -> u64 {
         self.disk.len()

@@ -8,14 +8,14 @@ use Rattle.disk_model.proofs.memory.image_after.Goals as goal
 
 pub leave_each-requires : goal.leave_each-requires
 leave_each-requires c =
-    let ms = c.args.moments.now in
+    let ms = c.args.history.now in
     let count = c.settled_count.result in
     let each : (k : ℕ) (d : DiskEvent) → k < length (drop count ms) → is_settling (get_or (drop count ms) k d) ≡ false = λ k d inside. rw get_or-drop (c.settled_count.ensures.rest (count + k) d (omega arith) (omega (arith, length-drop count ms))) in
     subst (λ (waiting : List DiskEvent). (k : ℕ) (d : DiskEvent) → k < length waiting → is_settling (get_or waiting k d) ≡ false) (sym c.split_at.ensures.back) each
 
 pub returns : goal.returns
 returns c =
-    let ms = c.args.moments.now in
+    let ms = c.args.history.now in
     let choice = c.args.choice in
     let prefix = c.split_at.result.0.now in
     let back = c.split_at.result.1.now in

@@ -8,12 +8,12 @@ use Rattle.disk_model.proofs.memory.settled_count.Goals.{then-is_settling, else-
 
 pub loop-i-preserved : goal.loop-i-preserved
 loop-i-preserved c =
-    let ms = c.args.moments.now in
+    let ms = c.args.history.now in
     let i = c.loop-i.i in
-    let m = c.index-moments-i.result in
+    let m = c.index-history-i.result in
     let inside : i < length ms = omega arith in
-    let is : m ≡ get_or ms i m = c.index-moments-i.is in
-    let waits = λ (moment : DiskEvent). is_settling moment ≡ false in
+    let is : m ≡ get_or ms i m = c.index-history-i.is in
+    let waits = λ (event : DiskEvent). is_settling event ≡ false in
     elim c.if-is_settling.branch [
       | then-is_settling w ↦
           let settled : IsSettled (log_of (take (i + 1) ms)) =

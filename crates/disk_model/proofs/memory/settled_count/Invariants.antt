@@ -4,4 +4,4 @@ use Rattle.disk_model.specs.Memory.{log_of, is_settling, IsSettled}
 use Rattle.disk_model.proofs.memory.settled_count.Given as goal
 
 abbrev pub invariant-loop-i : goal.invariant-loop-i
-invariant-loop-i l = record { within : l.count ≤ l.i; settled : IsSettled (log_of (take l.count l.moments)); rest : AllWithin (λ moment. is_settling moment ≡ false) l.moments l.count l.i }
+invariant-loop-i l = record { within : l.count ≤ l.i; settled : IsSettled (log_of (take l.count l.history)); rest : AllWithin (λ event. is_settling event ≡ false) l.history l.count l.i }
