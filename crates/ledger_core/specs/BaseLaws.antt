@@ -1,9 +1,9 @@
 -- Laws of Bases and of what follows them, for this crate and those above.
 use Rattle.std.specs.Prelude.{◌≡◌, ℕ, zero, suc, ◌+◌, ◌<◌, ◌^◌, List, [], ◌∷◌, ◌++◌, length}
 use Rattle.std.specs.Prelude.{◌==◌, Bool, true, false, not, if◌then◌else◌, take, drop, refl}
-use Rattle.std.proofs.Common.{inl, inr, sym, ◌∙◌, ap, subst, arith, length-append}
+use Rattle.std.proofs.Common.{inl, inr, sym, ◌∙◌, ap, subst, arith, length-append, length-take, ◌≤◌}
 use Rattle.std.proofs.lemmas.Bool.{eqb-true}
-use Rattle.std.proofs.lemmas.List.{get_or_append_left, length-map, map-append, take-take, take_at}
+use Rattle.std.proofs.lemmas.List.{get_or_append_left, length-map, map-append, take-take, take_all, take_at}
 use Rattle.std.proofs.lemmas.List.Elements.{All-take}
 use Rattle.std.proofs.lemmas.List.Sums.{sum_by-append}
 use Rattle.std.proofs.lemmas.Nat.{from_be_bytes-to_be_bytes_8}
@@ -14,6 +14,7 @@ use Rattle.ledger_core.specs.declared.base.Base.{Base}
 use Rattle.ledger_core.specs.declared.note.Note.{Note}
 use Rattle.ledger_core.specs.declared.note.Note.TheVariants.{Owe, Final, Drop, Seen, Closed}
 use Rattle.ledger_core.specs.declared.marks.Marks.{Marks}
+use Rattle.ledger_core.specs.Base.{SpellsNoBase}
 use Rattle.ledger_core.specs.Base.{IsBase, base_spelling, imports_tag, is_told, marks_in, told_imports, owe, owes}
 use Rattle.ledger_core.specs.Base.{AreDebts, HasDebts}
 use Rattle.ledger_core.specs.Base.{LeavesBehind, BeginsWith, HasNoBase, Restores, DebtsEnd}
@@ -122,6 +123,27 @@ base-no-batch base (note ∷ next ∷ notes) e = by-flag (is_told base.closed ba
     by-flag : (b : Bool) → ◌≡◌ {A = ℕ} (if b then 10 else 4) 11 → ⊥
     by-flag true e = omega (arith, e)
     by-flag false e = omega (arith, e)
+
+-- ---- how long a Base is
+
+imports-short : (b : Bool) (closed import_mark : ℕ)
+    → length (if b then to_be_bytes w32 closed ++ to_be_bytes w64 import_mark else []) ≤ 12
+imports-short true closed import_mark = omega arith
+imports-short false closed import_mark = omega arith
+
+-- no Base is longer than 61 octets
+pub base-short : (base : Base) → length (base_spelling base) ≤ 61
+base-short base = omega (arith, imports-short (is_told base.closed base.import_mark) base.closed base.import_mark)
+
+-- a payload is a Base exactly if its first 62 octets are
+pub base-by-part : (base : Base) (payload : List ℕ) → take 62 payload ≡ base_spelling base
+    → payload ≡ base_spelling base
+base-by-part base payload is =
+    sym (take_all 62 payload (omega (arith, length-take 62 payload, ap length is, base-short base))) ∙ is
+
+pub no-base-by-part : (payload : List ℕ) → SpellsNoBase (take 62 payload) → SpellsNoBase payload
+no-base-by-part payload none base is whole =
+    none base is (whole ∙ sym (take_all 62 payload (omega (arith, ap length whole, base-short base))))
 
 -- ---- a prefix of debts
 

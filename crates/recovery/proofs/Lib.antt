@@ -10,3 +10,4 @@ pub mod Stands
 mod Rows
 pub mod Indexed
 pub mod Readings
+pub mod Generations

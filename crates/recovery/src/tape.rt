@@ -119,7 +119,7 @@ impl<D: Disk> Tape<D> {
     /// The disks are read and judged first, which changes nothing; then the other disk is synced, and the end of the
     /// live segment is repaired. Linear in the live segment. Each payload is judged as it is read, and none is kept:
     /// apart from the ledger it takes room for a piece of the segment, of at most 131,072 octets, and before that for
-    /// the first payload of one disk at a time, whose generation it looks for.
+    /// the first 62 octets of the first payload of each disk, which say what generation it gives.
     ///
     /// # Errors
     /// The disks are handed back. Tried in this order:

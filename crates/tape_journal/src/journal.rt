@@ -19,9 +19,9 @@ pub const SEGMENT_MAX_OCTETS: u64 = 4294967296;
 /// A disk on which there is no journal, handed back as the call left it: it was not opened, or not renewed.
 #[derive(Drop)]
 pub struct Refused<D: Disk> {
-    /// The disk.
+    /// What is on it is as the call left it.
     pub disk: D,
-    /// Why it was refused.
+    /// Why the call was refused.
     pub fault: JournalFault,
     ghost damaged: { D.honest disk → (at : ℕ) → fault ≡ Damaged at → (payloads : List (List ℕ))
         → Reads (content (D.log disk)) payloads → ⊥ },

@@ -288,3 +288,32 @@ pub fn peek_first<D: Disk>(alloc: Global, disk: &mut D) -> Result<Option<Vec<u8>
     }
     record_at(alloc, &mut Window::unbuffered(alloc), disk, 0, len)
 }
+
+/// The beginning of the payload of the first record, `most` octets of it at most, without a look at the rest of it or
+/// at what follows; `None` if the segment has no record. So it takes little memory however long the payload is.
+///
+/// # Errors
+/// `Damaged` at 0 if an open record is cut short there; `Disk`; `NoMemory`. The disk is as it was.
+pub fn peek_first_part<D: Disk>(
+    alloc: Global,
+    disk: &mut D,
+    most: u32,
+) -> Result<Option<Vec<u8>>, PeekFault>
+    ensures ok { D.honest disk.old → IfOk result (λ o. MatchOption o
+        (Ends (content (D.log disk.old)))
+        (λ part. IsPart part.items 0 most (content (D.log disk.old)))) }
+    ensures log { D.honest disk.old → D.log disk.new ≡ D.log disk.old }
+    ensures damaged { D.honest disk.old → (at : ℕ) → IsErrOf result (OpenFault.Damaged at)
+        → (at ≡ 0) × IsCutShort (content (D.log disk.old)) }
+    ensures cause { D.honest disk.old → IsErrOf result OpenFault.Disk
+        → HasRisen (D.faults_of disk.old) (D.faults_of disk.new) }
+    ensures honest { D.honest disk.old ↔ D.honest disk.new }
+    ensures later { D.faults_of disk.old ≤ D.faults_of disk.new }
+    ensures quiet { OnOk result (D.faults_of disk.new ≡ D.faults_of disk.old) }
+{
+    let len = disk.len();
+    if len == 0 {
+        return Ok(None);
+    }
+    part_of(alloc, &mut Window::unbuffered(alloc), disk, 0, len, 0, most)
+}

@@ -1,11 +1,12 @@
 // Batches: their octets, tapes that hold them, and how the notes of a flush are cut into them.
 use crate::answers::assert_answer;
 use crate::disks::disks_of;
+use crate::planned_file::{Plan, PlannedFile};
 use crate::rotations::with_octet;
 use crate::samples::{Sample, is_sample, note_of};
 use crate::tape_steps::{ReopenedTape, TapeStep, flush, opened, run, run_each};
 use crate::tapes::{FILLS, assert_damaged, fused, image, prefix_of, stopped};
-use disk_model::{Disk, FuseDisk, MemDisk};
+use disk_model::{Disk, FileDisk, FuseDisk, MemDisk};
 use funnel::{MsgId, Token};
 use ledger_core::{
     Key, LedgerFault, Note, Totals, decode_batch, encode, encode_batch, join, joined_len,
@@ -455,6 +456,25 @@ fn longer_payloads_are_damage(rt: HostRuntime) -> Result<(), Fail> {
         tape.extend_from_slice(&[0xa5, 0])?;
         assert_damaged_at(&rt, rt.alloc(), row, &tape, end as u64)?;
     }
+    Ok(())
+}
+
+// A first payload that is too long is not read whole either, though its beginning says what generation the tape has:
+// a call moves 1,024 octets, so all of it would take more calls than the disks pass.
+#[test]
+fn a_long_first_payload_is_not_read_whole(rt: HostRuntime) -> Result<(), Fail> {
+    let alloc = rt.alloc();
+    let mut tape = Vec::from_slice(alloc, &[0xa5, 0, 0x10, 0, 0])?;
+    tape.extend_from_slice(&vec![in alloc; 7u8; 0x10_0000]?)?;
+    tape.push(0)?;
+    let plan = Plan::bounded(1_024, 400);
+    let first = FileDisk::new(PlannedFile::new(alloc, &tape, plan)?);
+    let second = FileDisk::new(PlannedFile::new(alloc, &[], plan)?);
+    let Err((fault, _)) = opened(alloc, (first, second)) else {
+        return Err(Fail::from("a tape"));
+    };
+    let damaged = TapeFault::Damaged { segment: 0, at: 0 };
+    assert_answer(&rt, 0, &fault, &damaged);
     Ok(())
 }
 

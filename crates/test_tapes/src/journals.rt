@@ -9,7 +9,7 @@ use std::process::Abort;
 use std::test::Fail;
 use tape_journal::{
     AppendFault, GatherFault, Gathered, Journal, JournalFault, PeekFault, ReadFault, Refused,
-    peek_first,
+    peek_first, peek_first_part,
 };
 
 // A payload of 19 octets, and the segments that have it once and twice.
@@ -553,13 +553,12 @@ fn no_payload_too_long_is_gathered(rt: HostRuntime) -> Result<(), Fail> {
     Ok(())
 }
 
-// Whether the first payload is this one, or there is none, or why it was not returned.
-fn peeked<D: Disk>(
-    alloc: Global,
-    disk: &mut D,
+// Whether what a look at the first payload gave is this, or there is none, or why it gave nothing.
+fn is_peeked(
+    peeked: Result<Option<Vec<u8>>, PeekFault>,
     want: &[u8],
 ) -> Result<Result<Option<bool>, PeekFault>, Fail> {
-    match peek_first(alloc, disk) {
+    match peeked {
         Ok(Some(payload)) => Ok(Ok(Some(payload.as_slice() == want))),
         Ok(None) => Ok(Ok(None)),
         Err(PeekFault::NoMemory) => Err(Fail::from(PeekFault::NoMemory)),
@@ -590,12 +589,26 @@ fn the_first_payload_is_told(rt: HostRuntime) -> Result<(), Fail> {
     let alloc = rt.alloc();
     for (at, (segment, first, want)) in ROWS.iter().enumerate() {
         let mut disk = ReadOnly::new(disk_of(alloc, segment)?);
-        assert_answer(&rt, at, &peeked(alloc, &mut disk, first)?, want);
+        assert_answer(
+            &rt,
+            at,
+            &is_peeked(peek_first(alloc, &mut disk), first)?,
+            want,
+        );
+        // The beginning of it, shorter or longer than the payload.
+        for most in [0, 1, 7, 62, u32::MAX] {
+            let part = first.get(..first.len().min(most as usize)).ok_or("a part")?;
+            let peeked = peek_first_part(alloc, &mut disk, most);
+            assert_answer(&rt, at, &is_peeked(peeked, part)?, want);
+        }
         assert_faults(&rt, at, &disk, 0);
         assert_octets(&rt, alloc, at, &mut disk, segment)?;
         let mut failing = FuseDisk::new(disk_of(alloc, segment)?, 0);
-        let told = peeked(alloc, &mut failing, first)?;
-        assert_answer(&rt, at, &(told == Ok(None)), &segment.is_empty());
+        let peeked = is_peeked(peek_first(alloc, &mut failing), first)?;
+        assert_answer(&rt, at, &(peeked == Ok(None)), &segment.is_empty());
+        let mut failing = FuseDisk::new(disk_of(alloc, segment)?, 0);
+        let peeked = is_peeked(peek_first_part(alloc, &mut failing, 1), first)?;
+        assert_answer(&rt, at, &(peeked == Ok(None)), &segment.is_empty());
     }
     Ok(())
 }
