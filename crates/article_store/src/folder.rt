@@ -126,7 +126,7 @@ pub fn read_article<R: Read>(
     ensures whole { IfSome (R.remaining reader.old) (λ text. IfOk result (IsReadAs text)) }
     ensures limit { ConsumesAtMost 16777217 (R.remaining reader.old) (R.remaining reader.new) }
 {
-    let count = read_front(reader, buffer)?;
+    let count = read_prefix(reader, buffer)?;
     Ok(judge(alloc, &buffer[..count])?)
 }
 
@@ -145,7 +145,7 @@ fn build_path<'p>(path: &'p mut String, root: &String, token: &Token) -> Result<
 
 // Reads to the reader's end, but at most `READ_MAX_OCTETS`, into a prefix of the buffer, and returns how many octets
 // came.
-fn read_front<R: Read>(reader: &mut R, buffer: &mut Vec<u8>) -> io::Result<usize>
+fn read_prefix<R: Read>(reader: &mut R, buffer: &mut Vec<u8>) -> io::Result<usize>
     ensures within { IfOk result (λ count. count ≤ length buffer.new.items) }
     ensures short { IfOk result (λ count. count ≤ 16777217) }
     ensures gave { IfOk result (λ count.
@@ -172,7 +172,7 @@ fn read_front<R: Read>(reader: &mut R, buffer: &mut Vec<u8>) -> io::Result<usize
 fn read_more<R: Read>(reader: &mut R, buffer: &mut Vec<u8>, filled: usize) -> io::Result<usize>
     requires within { filled ≤ length buffer.old.items }
     requires short { filled < 16777217 }
-    ensures front { take filled buffer.new.items ≡ take filled buffer.old.items }
+    ensures prefix { take filled buffer.new.items ≡ take filled buffer.old.items }
     ensures fits { IfOk result (λ count. filled + count ≤ length buffer.new.items) }
     ensures most { IfOk result (λ count. filled + count ≤ 16777217) }
     ensures gave { IfOk result (λ count. Consumes (R.remaining reader.old) (R.remaining reader.new)
@@ -196,7 +196,7 @@ fn read_at<R: Read>(
 ) -> io::Result<usize>
     requires some { start < end }
     requires within { end ≤ length buffer.old }
-    ensures front { take start buffer.new ≡ take start buffer.old }
+    ensures prefix { take start buffer.new ≡ take start buffer.old }
     ensures fits { IfOk result (λ count. start + count ≤ end) }
     ensures gave { IfOk result (λ count. Consumes (R.remaining reader.old) (R.remaining reader.new)
         (take count (drop start buffer.new))) }
@@ -210,7 +210,7 @@ fn read_at<R: Read>(
 fn make_room(buffer: &mut Vec<u8>) -> Result<(), AllocError>
     requires { length buffer.old.items < 16777217 }
     ensures longer { OnOk result (length buffer.old.items < length buffer.new.items) }
-    ensures front { (count : ℕ) → count ≤ length buffer.old.items
+    ensures prefix { (count : ℕ) → count ≤ length buffer.old.items
         → take count buffer.new.items ≡ take count buffer.old.items }
 {
     let room = buffer

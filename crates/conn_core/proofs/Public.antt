@@ -26,11 +26,11 @@ use Rattle.conn_core.proofs.Replies.{stands_came}
 use Rattle.conn_core.proofs.Articles.{stands_handed, stands_faulted, stands_broke, stands_leave, stands_sent, wanted_first}
 
 -- what is left of a list
-drop-front : {A : Type 0} (n : ℕ) (xs : List A) (x : A) (ys : List A) → drop n xs ≡ x ∷ ys → (slice_get xs n ≡ Some x) × (drop (n + 1) xs ≡ ys) × (n < length xs)
-drop-front zero [] x ys e = cc
-drop-front (suc n) [] x ys e = cc
-drop-front zero (z ∷ zs) x ys e = let a : z ≡ x = cc in let b : zs ≡ ys = cc in (ap Some a, b, omega arith)
-drop-front (suc n) (z ∷ zs) x ys e = let r = drop-front n zs x ys e in let q = rw (add-one n) at r.1 in (r.0, rw (add-one (suc n)) q, omega arith)
+drop-first : {A : Type 0} (n : ℕ) (xs : List A) (x : A) (ys : List A) → drop n xs ≡ x ∷ ys → (slice_get xs n ≡ Some x) × (drop (n + 1) xs ≡ ys) × (n < length xs)
+drop-first zero [] x ys e = cc
+drop-first (suc n) [] x ys e = cc
+drop-first zero (z ∷ zs) x ys e = let a : z ≡ x = cc in let b : zs ≡ ys = cc in (ap Some a, b, omega arith)
+drop-first (suc n) (z ∷ zs) x ys e = let r = drop-first n zs x ys e in let q = rw (add-one n) at r.1 in (r.0, rw (add-one (suc n)) q, omega arith)
 
 ready-stays : (b q has_room : Bool) → ready_when b q has_room ≡ Yes → q ≡ false
 ready-stays true q has_room e = cc
@@ -155,10 +155,10 @@ pub taken-stands : (options : Options) (old new : State) (h : List Event) (outco
     → (slice_get (outcomes options h) (taken h) ≡ Some outcome) × Matches options new (Taken ∷ h)
 unfolding story
 taken-stands options old new h outcome st t =
-    let front = drop-front (taken h) (outcomes options h) outcome (untold new) (sym st.untold_is ∙ t.first) in (
-      front.0,
+    let first = drop-first (taken h) (outcomes options h) outcome (untold new) (sym st.untold_is ∙ t.first) in (
+      first.0,
       told-stands options old new (Some outcome) h (Taken ∷ h) st t (first_reason-none _) refl refl refl refl
-          (unanswered-same options h Taken refl) (sym front.1) (omega arith)
+          (unanswered-same options h Taken refl) (sym first.1) (omega arith)
           (λ w. record {
             phase_is = w.phase_is;
             held_is = w.held_is;

@@ -3,7 +3,7 @@ use Rattle.std.proofs.Common.{◌≡◌, ℕ, ◌<◌, Bool, true, false, List, 
 use Rattle.std.proofs.Math.ListN.{length-append}
 use Rattle.std.specs.Prelude.{is_some, not, Result, Ok, Err, OnErr}
 use Rattle.reply_reader.specs.Stream.{Given, Held as Reading, Working, Broken, AtWork, BeginsWithReply, BeginsWithNoReply, IsShort, IsTooLong, after_feed}
-use Rattle.reply_reader.specs.Told.{GivesReply}
+use Rattle.reply_reader.specs.Next.{GivesReply}
 use Rattle.reply_reader.specs.declared.fault.ReplyFault.{ReplyFault}
 use Rattle.reply_reader.specs.declared.fault.ReplyFault.TheVariants.{TooLong, NoCode, NoMemory, Failed}
 use Rattle.conn_core.specs.History.{Event, Came, Faulted, reason, after}

@@ -3,7 +3,7 @@ ghost use Rattle.std.specs.Prelude.{◌≡◌, ◌+◌, Bool, find, position, is
 ghost use Rattle.std.specs.Option.{option_copied};
 ghost use Rattle.std.specs.Set.{remove_key};
 ghost use Rattle.std.specs.VecDeque.{deque_capacity, deque_len};
-ghost use Rattle.reply_reader.specs.Told.{given_of};
+ghost use Rattle.reply_reader.specs.Next.{given_of};
 ghost use Rattle.conn_core.specs.Commands.{held_for, is_at, is_of};
 ghost use Rattle.conn_core.specs.Kept.{can_answer};
 ghost use Rattle.conn_core.specs.Machine.{names_debt};

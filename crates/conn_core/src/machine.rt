@@ -405,7 +405,6 @@ impl Machine {
         }
     }
 
-    // Why it closed.
     pub(crate) fn closed(&self) -> Option<Reason>
         ensures { result ≡ self.now.closed }
     {

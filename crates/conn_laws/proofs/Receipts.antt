@@ -99,8 +99,8 @@ begins-more : (waiting rest second : List ℕ) (reply : Given) → BeginsWithRep
 begins-more waiting rest second reply (line, parts, says) = (line, ap (λ u. u ++ second) parts ∙ append_assoc line (10 ∷ rest) second, says)
 
 fault-more : (waiting second : List ℕ) (fault : ReplyFault) → BeginsWithFault waiting fault → BeginsWithFault (waiting ++ second) fault
-fault-more waiting second TooLong (front, rest, parts, len, lacks) =
-    (front, rest ++ second, ap (λ u. u ++ second) parts ∙ append_assoc front rest second, len, lacks)
+fault-more waiting second TooLong (prefix, rest, parts, len, lacks) =
+    (prefix, rest ++ second, ap (λ u. u ++ second) parts ∙ append_assoc prefix rest second, len, lacks)
 fault-more waiting second NoCode (line, rest, parts, few, none) =
     (line, rest ++ second, ap (λ u. u ++ second) parts ∙ append_assoc line (10 ∷ rest) second, few, none)
 fault-more waiting second NoMemory f = f

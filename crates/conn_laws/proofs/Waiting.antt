@@ -16,7 +16,7 @@ use Rattle.funnel.specs.declared.line.LineFault.TheVariants.{NoToken, BadToken, 
 use Rattle.reply_reader.specs.Reply.{IsReplyLine}
 use Rattle.reply_reader.specs.Stream.{BeginsWithNoReply, BeginsWithReply, Given, IsFaulty, IsShort, IsTooLong}
 use Rattle.reply_reader.specs.Stream.{longest_reply}
-use Rattle.reply_reader.specs.LengthLaws.{long-front, long-line, part-is-not-long, short-is-not-long}
+use Rattle.reply_reader.specs.LengthLaws.{long-prefix, long-line, part-is-not-long, short-is-not-long}
 use Rattle.reply_reader.specs.LineLaws.{line-apart, line-either}
 
 pub long-apart : (unread : List ℕ) → IsTooLong unread → BeginsWithNoReply unread → ⊥
@@ -74,7 +74,7 @@ some-reading unread =
     elim (first-end unread) [
       | inl none ↦ elim (cases_lt (length unread) longest_reply) [
         | inl short ↦ inl (record { line = none; short = short })
-        | inr long ↦ inr (inl (inl (long-front unread long none)))
+        | inr long ↦ inr (inl (inl (long-prefix unread long none)))
       ]
       | inr found ↦ elim (cases_lt (length found.0) longest_reply) [
         | inl short ↦ inr (line-reading unread found.0 found.1 found.2 (record { line = found.3; short = short }))

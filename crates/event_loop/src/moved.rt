@@ -1,6 +1,6 @@
 // What one call of a link did.
 
-/// What one call of a link did.
+/// What came of sending or receiving once, without waiting.
 #[derive(Clone, Copy, Debug, PartialEq, Eq)]
 pub enum Moved {
     /// The number of octets that went through; 0 if the call was interrupted.

@@ -85,11 +85,11 @@ lacks-end octets unread first view so_far =
 -- the first line, cut off at its LF
 pub whole-line : (unread line rest : List ℕ) (offset : ℕ) → EndsAt unread offset → offset < longest_reply → line ≡ take offset unread → rest ≡ drop (offset + 1) unread
     → (unread ≡ line ++ 10 ∷ rest) × IsShort line
-whole-line unread line rest offset (front, back, parts, lacks, is) short line-is rest-is =
-    let first : line ≡ front = line-is ∙ ap (λ u. take offset u) parts ∙ take_at front (10 ∷ back) offset (sym is) in
-    let split : unread ≡ (front ++ 10 ∷ []) ++ back = parts ∙ sym (append_assoc front (10 ∷ []) back) in
-    let len : length (front ++ 10 ∷ []) ≡ offset + 1 = omega (arith, length-append front (10 ∷ []), is) in
-    let behind : rest ≡ back = rest-is ∙ ap (λ u. drop (offset + 1) u) split ∙ drop_at (front ++ 10 ∷ []) back (offset + 1) len in (
+whole-line unread line rest offset (prefix, back, parts, lacks, is) short line-is rest-is =
+    let first : line ≡ prefix = line-is ∙ ap (λ u. take offset u) parts ∙ take_at prefix (10 ∷ back) offset (sym is) in
+    let split : unread ≡ (prefix ++ 10 ∷ []) ++ back = parts ∙ sym (append_assoc prefix (10 ∷ []) back) in
+    let len : length (prefix ++ 10 ∷ []) ≡ offset + 1 = omega (arith, length-append prefix (10 ∷ []), is) in
+    let behind : rest ≡ back = rest-is ∙ ap (λ u. drop (offset + 1) u) split ∙ drop_at (prefix ++ 10 ∷ []) back (offset + 1) len in (
       parts ∙ ap (λ l. l ++ 10 ∷ back) (sym first) ∙ ap (λ r. line ++ 10 ∷ r) (sym behind),
       record { line = subst (λ l. IsUnended l) (sym first) lacks; short = omega (arith, ap length first, is, short) },
     )

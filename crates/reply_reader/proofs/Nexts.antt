@@ -7,7 +7,7 @@ use Rattle.funnel.specs.Stream.{IsUnended}
 use Rattle.funnel.specs.StreamLaws.{first_line_once, whole_line_ends}
 use Rattle.reply_reader.specs.Reply.{IsNoReply, IsReplyLine}
 use Rattle.reply_reader.specs.Stream.{AtWork, BeginsWithNoReply, BeginsWithReply, Broken, Given, Held, IsFaulty, IsShort, IsTooLong, Reads, StandsFor, Working}
-use Rattle.reply_reader.specs.Told.{GivesReply, NextIs, RefusesNext, given_of, told}
+use Rattle.reply_reader.specs.Next.{GivesReply, NextIs, RefusesNext, given_of, given_by}
 use Rattle.reply_reader.specs.declared.fault.ReplyFault.{ReplyFault}
 use Rattle.reply_reader.specs.declared.fault.ReplyFault.TheVariants.{TooLong, NoCode, NoMemory, Failed}
 use Rattle.reply_reader.specs.declared.line.Reply.{Reply}
@@ -75,22 +75,22 @@ module _ (unread rest : List ℕ) where
   no-code-iff r n = (λ e. subst (λ s. NextIs unread rest s) e n, no-code-from r n)
 
   -- a reader at work stands for what it gave
-  pub gives-more : (next : Option Reply) → NextIs unread rest (Ok next) → (fed : List ℕ) (given : List Given) → Reads fed given unread → Reads fed (given ++ told (Ok next)) rest
+  pub gives-more : (next : Option Reply) → NextIs unread rest (Ok next) → (fed : List ℕ) (given : List Given) → Reads fed given unread → Reads fed (given ++ given_by (Ok next)) rest
   gives-more None n fed given r =
       subst (λ g. Reads fed g rest) (sym (append-nil given)) (subst (λ u. Reads fed given u) (sym n.1) r)
   gives-more (Some reply) n fed given r = reads-reply fed unread rest given (given_of reply) r n
 
   -- a fault that is returned is there
-  pub told-fault : (fault : ReplyFault) → fault ≢ NoMemory → NextIs unread rest (Err fault) → IsFaulty unread
-  told-fault TooLong other n = inl n
-  told-fault NoCode other n = inr n
-  told-fault NoMemory other n = absurd (other refl)
-  told-fault Failed other n = absurd n
+  pub final-fault : (fault : ReplyFault) → fault ≢ NoMemory → NextIs unread rest (Err fault) → IsFaulty unread
+  final-fault TooLong other n = inl n
+  final-fault NoCode other n = inr n
+  final-fault NoMemory other n = absurd (other refl)
+  final-fault Failed other n = absurd n
 
   pub breaks-at : (fault : ReplyFault) → fault ≢ NoMemory → NextIs unread rest (Err fault) → (fed : List ℕ) (given : List Given) → Reads fed given unread
       → StandsFor Broken fed (given ++ [])
   breaks-at fault other n fed given r =
-      (unread, subst (λ g. Reads fed g unread) (sym (append-nil given)) r, told-fault fault other n)
+      (unread, subst (λ g. Reads fed g unread) (sym (append-nil given)) r, final-fault fault other n)
 
 -- the same for a reader that holds these octets
 module _ (held : Held) (unread rest : List ℕ) (is : held ≡ Working unread) where
@@ -106,7 +106,7 @@ module _ (held : Held) (unread rest : List ℕ) (is : held ≡ Working unread) w
   reads-of : (fed : List ℕ) (given : List Given) → StandsFor held fed given → Reads fed given unread
   reads-of fed given s = subst (λ h. StandsFor h fed given) is s
 
-  pub at-given : (next : Option Reply) → NextIs unread rest (Ok next) → (fed : List ℕ) (given : List Given) → StandsFor held fed given → Reads fed (given ++ told (Ok next)) rest
+  pub at-given : (next : Option Reply) → NextIs unread rest (Ok next) → (fed : List ℕ) (given : List Given) → StandsFor held fed given → Reads fed (given ++ given_by (Ok next)) rest
   at-given next n fed given s = gives-more unread rest next n fed given (reads-of fed given s)
 
   pub at-broken : (fault : ReplyFault) → fault ≢ NoMemory → NextIs unread rest (Err fault) → (fed : List ℕ) (given : List Given) → StandsFor held fed given → StandsFor Broken fed (given ++ [])

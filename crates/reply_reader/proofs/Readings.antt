@@ -20,8 +20,8 @@ reads-fed fed unread piece given r = record {
 }
 
 long-fed : (unread piece : List ℕ) → IsTooLong unread → IsTooLong (unread ++ piece)
-long-fed unread piece (front, rest, parts, len, lacks) =
-    (front, rest ++ piece, ap (λ u. u ++ piece) parts ∙ append_assoc front rest piece, len, lacks)
+long-fed unread piece (prefix, rest, parts, len, lacks) =
+    (prefix, rest ++ piece, ap (λ u. u ++ piece) parts ∙ append_assoc prefix rest piece, len, lacks)
 
 no-reply-fed : (unread piece : List ℕ) → BeginsWithNoReply unread → BeginsWithNoReply (unread ++ piece)
 no-reply-fed unread piece (line, rest, parts, short, none) =

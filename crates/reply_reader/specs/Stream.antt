@@ -40,7 +40,8 @@ BeginsWithNoReply unread = (line rest : List ℕ) × (unread ≡ line ++ 10 ∷ 
 
 -- the octets begin with as many without an LF as a whole line has at most, so their first line is too long
 abbrev pub IsTooLong : List ℕ → Type 0
-IsTooLong unread = (front rest : List ℕ) × (unread ≡ front ++ rest) × (length front ≡ longest_reply) × IsUnended front
+IsTooLong unread =
+    (prefix rest : List ℕ) × (unread ≡ prefix ++ rest) × (length prefix ≡ longest_reply) × IsUnended prefix
 
 -- the octets begin with a fault, after which nothing is read
 abbrev pub IsFaulty : List ℕ → Type 0

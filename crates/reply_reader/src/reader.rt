@@ -3,7 +3,7 @@ ghost use Rattle.std.specs.Prelude.{◌≡◌, ◌≤◌, ◌↔◌, ◌++◌, [
 ghost use Rattle.std.specs.Prelude.{IsTrue, OnOk, OnErr};
 ghost use Rattle.reply_reader.specs.Stream.{AtWork, Broken, Given, IsShort, StandsFor, Working, after_feed};
 ghost use Rattle.reply_reader.specs.Stream.{longest_reply};
-ghost use Rattle.reply_reader.specs.Told.{GivesReply, NextIs, RefusesNext, given_of, told};
+ghost use Rattle.reply_reader.specs.Next.{GivesReply, NextIs, RefusesNext, given_of, given_by};
 
 use crate::NoMemory;
 use crate::fault::ReplyFault;
@@ -76,7 +76,7 @@ impl ReplyReader {
     /// refused: the reader is unchanged.
     pub fn next(&mut self) -> Result<Option<Reply>, ReplyFault>
         ensures stands { (fed : List ℕ) (given : List Given) → StandsFor self.old fed given
-            → StandsFor self.new fed (given ++ told result) }
+            → StandsFor self.new fed (given ++ given_by result) }
         ensures some { IfOk result
             (λ next. IfSome next (λ reply. GivesReply self.old self.new (given_of reply))) }
         ensures none { (result ≡ Ok None) ↔ AtWork self.old IsShort }
@@ -113,7 +113,7 @@ fn next_reply(unread: &mut Unread) -> Result<Option<Reply>, ReplyFault>
     if is_too_many(end) {
         return Err(ReplyFault::TooLong);
     }
-    let reply = read_reply(unread.alloc(), unread.front(end))?;
+    let reply = read_reply(unread.alloc(), unread.prefix(end))?;
     unread.skip(end + 1);
     Ok(Some(reply))
 }

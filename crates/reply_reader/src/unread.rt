@@ -87,7 +87,7 @@ impl Unread {
         }
     }
 
-    pub(crate) fn front(&self, len: usize) -> &[u8]
+    pub(crate) fn prefix(&self, len: usize) -> &[u8]
         requires { len ≤ length self.now }
         ensures { result.now ≡ take len self.now }
     {

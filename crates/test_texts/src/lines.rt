@@ -157,9 +157,9 @@ fn lines_told(alloc: Global, cutter: &mut LineCutter) -> Result<Vec<u8>, AllocEr
 // The lines of a text that is fed in a first piece of `first` octets and then in pieces of `len` octets.
 fn cut(alloc: Global, text: &[u8], first: usize, len: usize) -> Result<Vec<u8>, AllocError> {
     let mut cutter = LineCutter::new(alloc);
-    let (front, back) = text.split_at(first.min(text.len()));
-    cutter.feed(front)?;
-    for piece in back.chunks(len.max(1)) {
+    let (beginning, rest) = text.split_at(first.min(text.len()));
+    cutter.feed(beginning)?;
+    for piece in rest.chunks(len.max(1)) {
         cutter.feed(piece)?;
     }
     lines_told(alloc, &mut cutter)

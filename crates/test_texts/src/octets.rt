@@ -11,10 +11,10 @@ pub(crate) type LongText = (&'static [u8], u8, usize, &'static [u8]);
 
 pub(crate) fn long(
     alloc: Global,
-    (front, octet, count, end): LongText,
+    (beginning, octet, count, end): LongText,
 ) -> Result<Vec<u8>, AllocError> {
-    let mut octets = Vec::from_slice(alloc, front)?;
-    octets.resize(front.len().saturating_add(count), octet)?;
+    let mut octets = Vec::from_slice(alloc, beginning)?;
+    octets.resize(beginning.len().saturating_add(count), octet)?;
     octets.extend_from_slice(end)?;
     Ok(octets)
 }

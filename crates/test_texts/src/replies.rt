@@ -35,10 +35,10 @@ fn tell(reader: &mut ReplyReader, told: &mut Vec<u8>) -> Result<bool, AllocError
 fn read(alloc: Global, octets: &[u8], first: usize, len: usize) -> Result<Vec<u8>, AllocError> {
     let mut reader = ReplyReader::new(alloc);
     let mut told = Vec::new(alloc);
-    let (front, back) = octets.split_at(first.min(octets.len()));
-    reader.feed(front)?;
+    let (beginning, rest) = octets.split_at(first.min(octets.len()));
+    reader.feed(beginning)?;
     let mut works = tell(&mut reader, &mut told)?;
-    for piece in back.chunks(len.max(1)) {
+    for piece in rest.chunks(len.max(1)) {
         reader.feed(piece)?;
         works = works && tell(&mut reader, &mut told)?;
     }

@@ -1,7 +1,7 @@
 // Replies that come in.
 ghost use Rattle.std.specs.Prelude.{◌≡◌, ◌≢◌, ◌+◌, ◌≤◌, ◌++◌, drop, find, length, OnOk};
 ghost use Rattle.std.specs.Prelude.{OnErr};
-ghost use Rattle.reply_reader.specs.Told.{given_of};
+ghost use Rattle.reply_reader.specs.Next.{given_of};
 ghost use Rattle.conn_core.specs.Checks.{counts};
 ghost use Rattle.conn_core.specs.Commands.{is_at};
 ghost use Rattle.conn_core.specs.Kept.{answered_with, parted_by, settled_by};

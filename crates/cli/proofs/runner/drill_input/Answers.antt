@@ -8,7 +8,7 @@ use Rattle.cli.proofs.runner.drill_input.Goals as goal
 whole : (holds : Option (List ℕ)) (first read text : List ℕ) → first ≡ [] → text ≡ read
     → IfSome holds (λ octets. read ≡ first ++ octets) → IfSome holds (λ octets. text ≡ octets)
 whole None first read text none same is = tt
-whole (Some octets) first read text none same is = same ∙ (is ∙ ap (λ (front : List ℕ). front ++ octets) none)
+whole (Some octets) first read text none same is = same ∙ (is ∙ ap (λ (prefix : List ℕ). prefix ++ octets) none)
 
 pub returns-in-Ok : goal.returns-in-Ok
 returns-in-Ok g c =

@@ -1,5 +1,5 @@
 use Rattle.conn_core.specs.Kept.{can_answer}
-use Rattle.reply_reader.specs.Told.{given_of}
+use Rattle.reply_reader.specs.Next.{given_of}
 use Rattle.conn_core.proofs.Lookups.{taken-value, taken-rest, taken-none}
 use Rattle.conn_core.proofs.lookup.take_answered.Goals as goal
 

@@ -11,6 +11,6 @@ returns-then-begins_field c =
     let next = drop (c.loop-index.index + 1) c.args.lines.now in
     let rest = ap (λ behind. c.split_at.result.1.now ++ folds (map
     (λ line. line.now) behind)) c.split_at-then-begins_field.ensures.back in
-    let text = ap (λ front. front ++ folds (map (λ line. line.now) next)) c.split_at.ensures.back in
+    let text = ap (λ prefix. prefix ++ folds (map (λ line. line.now) next)) c.split_at.ensures.back in
     subst (λ whole. IfOk c.unfolded.result (λ body. body.items ≡ whole)) (rest ∙ (text ∙ (sym at
     ∙ c.loop-index.invariant))) c.unfolded.ensures

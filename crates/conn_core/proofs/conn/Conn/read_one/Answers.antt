@@ -1,7 +1,7 @@
 use Rattle.std.proofs.Common.{◌≡◌, Ok, Err, None, ap, sym, ◌∙◌}
 use Rattle.std.specs.Prelude.{is_some}
 use Rattle.reply_reader.specs.Stream.{Working, IsShort}
-use Rattle.reply_reader.specs.Told.{given_of}
+use Rattle.reply_reader.specs.Next.{given_of}
 use Rattle.conn_core.proofs.Reading.{at-work, begins-fault, begins-reply, reads-fault, reads-none, reads-reply, shorter-reply}
 use Rattle.conn_core.proofs.conn.Conn.read_one.Goals as goal
 

@@ -1,5 +1,5 @@
 use Rattle.std.proofs.Common.{sym, ap, ◌∙◌}
-use Rattle.reply_reader.specs.Told.{given_of}
+use Rattle.reply_reader.specs.Next.{given_of}
 use Rattle.conn_core.specs.Machine.{quit_if_due}
 use Rattle.conn_core.proofs.Stirring.{stir, on_reply-is}
 use Rattle.conn_core.proofs.machine.Machine.on_reply.Goals as goal

@@ -1,5 +1,5 @@
 use Rattle.std.proofs.Common.{◌≡◌, sym, ap, ◌∙◌, find, Some, None}
-use Rattle.reply_reader.specs.Told.{given_of}
+use Rattle.reply_reader.specs.Next.{given_of}
 use Rattle.conn_core.specs.Commands.{is_at}
 use Rattle.conn_core.specs.Kept.{can_answer}
 use Rattle.conn_core.specs.State.{State}

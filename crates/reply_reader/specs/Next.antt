@@ -1,7 +1,7 @@
 -- What the answers of a reader say, and what a call makes of it.
 use Rattle.std.specs.Prelude.{◌≡◌, ◌≢◌, ◌↔◌, ℕ, Option, Some, None, Result, Ok, Err, List, [], ◌∷◌, IfErr, IsErrOf}
-use Rattle.reply_reader.specs.Stream.{AtWork, BeginsWithNoReply, BeginsWithReply, Broken, Given, Held, IsShort, IsTooLong}
-use Rattle.reply_reader.specs.Stream.{Working}
+use Rattle.reply_reader.specs.Stream.{AtWork, BeginsWithNoReply, BeginsWithReply, Broken, Given, Held, IsShort}
+use Rattle.reply_reader.specs.Stream.{IsTooLong, Working}
 use Rattle.reply_reader.specs.declared.fault.ReplyFault.{ReplyFault}
 use Rattle.reply_reader.specs.declared.fault.ReplyFault.TheVariants.{TooLong, NoCode, NoMemory, Failed}
 use Rattle.reply_reader.specs.declared.line.Reply.{Reply}
@@ -11,10 +11,10 @@ abbrev pub given_of : Reply → Given
 given_of reply = record { code = reply.code; id = reply.id; text = reply.text.items }
 
 -- what the answer of one call adds to the replies given
-abbrev pub told : Result (Option Reply) ReplyFault → List Given
-told (Ok (Some reply)) = given_of reply ∷ []
-told (Ok None) = []
-told (Err fault) = []
+abbrev pub given_by : Result (Option Reply) ReplyFault → List Given
+given_by (Ok (Some reply)) = given_of reply ∷ []
+given_by (Ok None) = []
+given_by (Err fault) = []
 
 -- what a call returns while these octets wait, and which of them wait afterwards
 abbrev pub NextIs : List ℕ → List ℕ → Result (Option Reply) ReplyFault → Type 0
@@ -22,7 +22,8 @@ NextIs unread rest (Ok (Some reply)) = BeginsWithReply unread (given_of reply) r
 NextIs unread rest (Ok None) = IsShort unread × (rest ≡ unread)
 NextIs unread rest (Err TooLong) = IsTooLong unread
 NextIs unread rest (Err NoCode) = BeginsWithNoReply unread
-NextIs unread rest (Err NoMemory) = (rest ≡ unread) × (given : Given) × (behind : List ℕ) × BeginsWithReply unread given behind
+NextIs unread rest (Err NoMemory) =
+    (rest ≡ unread) × (given : Given) × (behind : List ℕ) × BeginsWithReply unread given behind
 NextIs unread rest (Err Failed) = ⊥
 
 -- The reply was the first of the octets that waited, and the rest after its line waits now.

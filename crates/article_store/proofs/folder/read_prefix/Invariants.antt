@@ -1,6 +1,6 @@
 use Rattle.std.proofs.Common.{◌≤◌, length, take}
 use Rattle.std.specs.Io.KnownBytes.{Consumes}
-use Rattle.article_store.proofs.folder.read_front.Given as goal
+use Rattle.article_store.proofs.folder.read_prefix.Given as goal
 
 abbrev pub invariant-loop : goal.invariant-loop
 invariant-loop g l = record {
