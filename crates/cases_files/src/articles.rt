@@ -30,7 +30,7 @@ pub(crate) fn print_folder<R: AllocGlobal + Files + Print + Copy + Send + Drop>(
     symlink(&rt, "/dev/zero", "device")?;
     let mut folder = hand_over(Folder::new(rt, alloc, ".")?);
     for name in TOKENS {
-        tell(&rt, alloc, &mut folder, name)?;
+        print_article(&rt, alloc, &mut folder, name)?;
     }
     fs::remove_file(&rt, "device")?;
     println!(rt; "the folder is there: {}", folder.is_there())?;
@@ -46,7 +46,7 @@ fn hand_over<T: Send>(value: T) -> T {
     value
 }
 
-fn tell<R: Files + Print + Drop>(
+fn print_article<R: Files + Print + Drop>(
     rt: &R,
     alloc: Global,
     folder: &mut Folder<R>,

@@ -13,25 +13,25 @@ use std::rt::Files;
 // Makes the directory `tapes`, prints what becomes of the tapes in it, and removes it.
 pub(crate) fn print_tapes<R: AllocGlobal + Files<File = File> + Print>(rt: &R) -> Result<()> {
     fs::create_dir(rt, "tapes")?;
-    tell_directory(rt, "missing")?;
+    print_directory(rt, "missing")?;
     let directory = TapeDirectory::lock(rt, "tapes")?;
-    tell_directory(rt, "tapes")?;
+    print_directory(rt, "tapes")?;
     keep_tape(rt, &directory)?;
-    tell_octets_behind_the_end(rt, &directory)?;
-    tell_cut(rt, &directory)?;
-    tell_rotated(rt, &directory)?;
-    tell_no_file(rt, &directory)?;
-    tell_directory_in_a_file(rt)?;
-    tell_synced(rt)?;
-    tell_stream(rt, &directory)?;
+    print_octets_behind_the_end(rt, &directory)?;
+    print_cut(rt, &directory)?;
+    print_rotated(rt, &directory)?;
+    print_no_file(rt, &directory)?;
+    print_directory_in_a_file(rt)?;
+    print_synced(rt)?;
+    print_stream(rt, &directory)?;
     drop(directory);
-    tell_directory(rt, "tapes")?;
+    print_directory(rt, "tapes")?;
     fs::remove_dir_all(rt, "tapes")?;
     Ok(())
 }
 
 // Whether this directory can be locked.
-fn tell_directory<R: AllocGlobal + Files<File = File> + Print>(rt: &R, path: &str) -> Result<()> {
+fn print_directory<R: AllocGlobal + Files<File = File> + Print>(rt: &R, path: &str) -> Result<()> {
     match TapeDirectory::lock(rt, path) {
         Ok(_) => println!(rt; "{path}: locked")?,
         Err(fault) => println!(rt; "{path}: {fault}")?,
@@ -46,12 +46,12 @@ fn keep_tape<R: AllocGlobal + Files<File = File> + Print>(
 ) -> Result<()> {
     open_tape(rt, directory, "peer")?;
     directory.sync()?;
-    tell_tape(rt, directory, "peer")?;
+    print_tape(rt, directory, "peer")?;
     note(rt, directory, owe(rt.alloc(), 1)?)?;
-    tell_tape(rt, directory, "peer")?;
+    print_tape(rt, directory, "peer")?;
     let code = FinalCode::TakethisReceived;
     note(rt, directory, Note::Final { key: line(1), code })?;
-    tell_tape(rt, directory, "peer")
+    print_tape(rt, directory, "peer")
 }
 
 fn octets_of<R: AllocGlobal + Files>(rt: &R, name: &str) -> Result<Vec<u8>> {
@@ -90,7 +90,7 @@ fn open_tape<R: AllocGlobal + Files<File = File>>(
 }
 
 // What the tape in the files of this name owes, and their octets.
-fn tell_tape<R: AllocGlobal + Files<File = File> + Print>(
+fn print_tape<R: AllocGlobal + Files<File = File> + Print>(
     rt: &R,
     directory: &TapeDirectory,
     name: &str,
@@ -146,28 +146,28 @@ fn rotate<R: AllocGlobal + Files<File = File>>(
 }
 
 // Octets after the end of a tape are cut off.
-fn tell_octets_behind_the_end<R: AllocGlobal + Files<File = File> + Print>(
+fn print_octets_behind_the_end<R: AllocGlobal + Files<File = File> + Print>(
     rt: &R,
     directory: &TapeDirectory,
 ) -> Result<()> {
     let mut octets = octets_of(rt, "peer~a")?;
     octets.extend_from_slice(&[0xa5, 0xa5, 0xa5])?;
     write(rt, "torn~a", &octets)?;
-    tell_tape(rt, directory, "torn")
+    print_tape(rt, directory, "torn")
 }
 
 // A tape that is cut by hand is damaged, and is left as it was.
-fn tell_cut<R: AllocGlobal + Files<File = File> + Print>(
+fn print_cut<R: AllocGlobal + Files<File = File> + Print>(
     rt: &R,
     directory: &TapeDirectory,
 ) -> Result<()> {
     let mut octets = octets_of(rt, "peer~a")?;
     octets.truncate(30);
-    tell_damaged(rt, directory, "cut", &octets, &[])
+    print_damaged(rt, directory, "cut", &octets, &[])
 }
 
 // Why the tape in files of these octets is refused, and whether they are left as they were.
-fn tell_damaged<R: AllocGlobal + Files<File = File> + Print>(
+fn print_damaged<R: AllocGlobal + Files<File = File> + Print>(
     rt: &R,
     directory: &TapeDirectory,
     name: &str,
@@ -191,37 +191,37 @@ fn tell_damaged<R: AllocGlobal + Files<File = File> + Print>(
 
 // A tape is rotated twice, which leaves the segment that was live before unchanged; and the younger segment is
 // damaged if it is cut by hand.
-fn tell_rotated<R: AllocGlobal + Files<File = File> + Print>(
+fn print_rotated<R: AllocGlobal + Files<File = File> + Print>(
     rt: &R,
     directory: &TapeDirectory,
 ) -> Result<()> {
     for number in [2, 3] {
         let generation = rotate(rt, directory, owe(rt.alloc(), number)?)?;
         println!(rt; "peer: rotated {generation}")?;
-        tell_tape(rt, directory, "peer")?;
+        print_tape(rt, directory, "peer")?;
     }
     let mut first = octets_of(rt, "peer~a")?;
     let second = octets_of(rt, "peer~b")?;
     first.truncate(100);
-    tell_damaged(rt, directory, "short", &first, &second)
+    print_damaged(rt, directory, "short", &first, &second)
 }
 
 // What is not a regular file is not opened, nor what may not be read.
-fn tell_no_file<R: AllocGlobal + Files<File = File> + Print>(
+fn print_no_file<R: AllocGlobal + Files<File = File> + Print>(
     rt: &R,
     directory: &TapeDirectory,
 ) -> Result<()> {
     fs::create_dir(rt, "tapes/directory~a")?;
-    tell_file(rt, directory, "directory~a")?;
+    print_file(rt, directory, "directory~a")?;
     symlink(rt, "/dev/full", "tapes/device~a")?;
-    tell_file(rt, directory, "device~a")?;
+    print_file(rt, directory, "device~a")?;
     write(rt, "closed~a", &[0])?;
     fs::set_permissions(rt, "tapes/closed~a", Permissions::from_mode(0))?;
-    tell_file(rt, directory, "closed~a")?;
-    tell_file(rt, directory, "missing/peer~a")
+    print_file(rt, directory, "closed~a")?;
+    print_file(rt, directory, "missing/peer~a")
 }
 
-fn tell_file<R: Files<File = File> + Print>(
+fn print_file<R: Files<File = File> + Print>(
     rt: &R,
     directory: &TapeDirectory,
     name: &str,
@@ -234,13 +234,13 @@ fn tell_file<R: Files<File = File> + Print>(
 }
 
 // A file in place of a directory can be locked, and has no file in it.
-fn tell_directory_in_a_file<R: AllocGlobal + Files<File = File> + Print>(rt: &R) -> Result<()> {
+fn print_directory_in_a_file<R: AllocGlobal + Files<File = File> + Print>(rt: &R) -> Result<()> {
     let file = TapeDirectory::lock(rt, "tapes/peer~a")?;
-    tell_file(rt, &file, "peer~a")
+    print_file(rt, &file, "peer~a")
 }
 
 // A sync is passed to the system, which refuses it for a device that keeps nothing (fdatasync(2)).
-fn tell_synced<R: AllocGlobal + Files<File = File> + Print>(rt: &R) -> Result<()> {
+fn print_synced<R: AllocGlobal + Files<File = File> + Print>(rt: &R) -> Result<()> {
     let device = OpenOptions::new().write(true).open(rt, "/dev/full")?;
     let mut file = TapeFile::new(rt.alloc(), device, "full")?;
     println!(rt; "a device: synced {:?}", RawFile::sync(&mut file))?;
@@ -248,12 +248,12 @@ fn tell_synced<R: AllocGlobal + Files<File = File> + Print>(rt: &R) -> Result<()
 }
 
 // A file does not get the descriptor of a standard stream: what is printed would be written into it.
-fn tell_stream<R: AllocGlobal + Files<File = File> + Print>(
+fn print_stream<R: AllocGlobal + Files<File = File> + Print>(
     rt: &R,
     directory: &TapeDirectory,
 ) -> Result<()> {
     if libc::close(0) != 0 {
         bail!("standard input was closed");
     }
-    tell_file(rt, directory, "stream~a")
+    print_file(rt, directory, "stream~a")
 }

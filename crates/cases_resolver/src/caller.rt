@@ -65,7 +65,7 @@ impl CaseCaller {
     }
 
     /// Prints the news of a host.
-    pub fn tell<R: Wait + Print>(
+    pub fn print_news<R: Wait + Print>(
         &mut self,
         rt: &R,
         resolver: &Resolver,

@@ -53,11 +53,11 @@ fn literals<R: AllocGlobal + Threads + Wait + Clock + Print + Copy + Send + Sync
     let gate = Gate::shut(rt.alloc())?;
     let resolver = resolver(rt, &gate, &["192.0.2.7", "2001:db8::7"])?;
     let mut caller = CaseCaller::new(rt.alloc(), 2)?;
-    caller.tell(&rt, &resolver, 0)?;
-    caller.tell(&rt, &resolver, 1)?;
+    caller.print_news(&rt, &resolver, 0)?;
+    caller.print_news(&rt, &resolver, 1)?;
     resolver.ask(&rt, 0);
     resolver.ask(&rt, 1);
-    caller.tell(&rt, &resolver, 0)?;
+    caller.print_news(&rt, &resolver, 0)?;
     println!(rt; "{} look-ups", gate.calls(&rt))?;
     Ok(())
 }
@@ -91,7 +91,7 @@ fn twenty<R: AllocGlobal + Threads + Wait + Clock + Print + Copy + Send + Sync +
         gate.most(&rt),
         gate.calls(&rt)
     )?;
-    caller.tell(&rt, &resolver, 0)
+    caller.print_news(&rt, &resolver, 0)
 }
 
 // A host that is being looked up or waits for it is not looked up again.
@@ -161,9 +161,9 @@ fn callers<R: AllocGlobal + Threads + Wait + Clock + Print + Copy + Send + Sync 
     let mut second = CaseCaller::new(rt.alloc(), 1)?;
     resolver.ask(&rt, 0);
     first.wait(&rt, &resolver, 0)?;
-    first.tell(&rt, &resolver, 0)?;
-    second.tell(&rt, &other, 0)?;
-    second.tell(&rt, &other, 0)
+    first.print_news(&rt, &resolver, 0)?;
+    second.print_news(&rt, &other, 0)?;
+    second.print_news(&rt, &other, 0)
 }
 
 // An index that no host has is ignored.
@@ -177,7 +177,7 @@ fn no_such_host<
     for host in [1, usize::MAX] {
         resolver.ask(&rt, host);
         println!(rt; "looking {}", resolver.is_looking(&rt, host))?;
-        caller.tell(&rt, &resolver, host)?;
+        caller.print_news(&rt, &resolver, host)?;
     }
     println!(rt; "{} look-ups", gate.calls(&rt))?;
     Ok(())
@@ -200,7 +200,7 @@ fn slow<R: AllocGlobal + Threads + Wait + Clock + Print + Copy + Send + Sync + D
         resolver.is_looking(&rt, 0),
         resolver.is_looking(&rt, 1)
     )?;
-    caller.tell(&rt, &resolver, 0)?;
+    caller.print_news(&rt, &resolver, 0)?;
     gate.open(&rt);
     caller.wait(&rt, &resolver, 0)
 }
@@ -224,13 +224,13 @@ fn woken<
     resolver.ask(&rt, 0);
     gate.open(&rt);
     let mut events = Events::with_capacity(rt.alloc(), 1)?;
-    tell_events(&rt, &mut one, &mut events)?;
-    tell_events(&rt, &mut other, &mut events)?;
+    print_events(&rt, &mut one, &mut events)?;
+    print_events(&rt, &mut other, &mut events)?;
     let mut caller = CaseCaller::new(rt.alloc(), 1)?;
-    caller.tell(&rt, &resolver, 0)
+    caller.print_news(&rt, &resolver, 0)
 }
 
-fn tell_events<R: Print>(rt: &R, poll: &mut Poll, events: &mut Events<Global>) -> Result<()> {
+fn print_events<R: Print>(rt: &R, poll: &mut Poll, events: &mut Events<Global>) -> Result<()> {
     poll.poll(events, None)?;
     println!(rt; "{} event", events.iter().count())?;
     Ok(())

@@ -71,16 +71,16 @@ struct HandedDebts {
 
 // How many octets a peer's two disks hold, and what its station counts once it is opened again from them.
 #[derive(Clone, Copy, Debug, PartialEq, Eq)]
-struct Disks {
+struct PeerDisks {
     octets: (u64, u64),
     totals: Totals,
 }
 
 #[derive(Debug, PartialEq, Eq, Drop)]
-struct Rotated {
+struct RotatedPost {
     handed: HandedDebts,
     // Those of each peer, in order.
-    disks: Vec<Disks>,
+    disks: Vec<PeerDisks>,
 }
 
 // What q answers once its tape has failed in the rotation, and what its disks keep.
@@ -252,7 +252,7 @@ fn run_rotation<N: Naming, R: Wait>(
     peers: Vec<PostPeer<FuseDisk<MemDisk>>>,
     intake: Tape<FuseDisk<MemDisk>>,
     blanks: Blanks,
-) -> Result<Rotated, Fail>
+) -> Result<RotatedPost, Fail>
     requires names { N.names ≡ names_of blanks peers.items }
     requires blanks { IsFor (length peers.items) blanks }
     requires flushed { All (λ p. IsFlushed p.station) peers.items }
@@ -264,13 +264,13 @@ fn run_rotation<N: Naming, R: Wait>(
     let Ok(closed) = post.close(rt, lines, share, second, third) else {
         return Err(Fail::from("memory"));
     };
-    Ok(Rotated {
+    Ok(RotatedPost {
         handed,
         disks: all_disks(alloc, closed)?,
     })
 }
 
-fn all_disks(alloc: Global, closed: ClosedPost<FuseDisk<MemDisk>>) -> Result<Vec<Disks>, Fail> {
+fn all_disks(alloc: Global, closed: ClosedPost<FuseDisk<MemDisk>>) -> Result<Vec<PeerDisks>, Fail> {
     let mut all = Vec::new(alloc);
     for peer in closed.peers.into_iter() {
         all.push(disks_of(alloc, peer)?)?;
@@ -279,7 +279,7 @@ fn all_disks(alloc: Global, closed: ClosedPost<FuseDisk<MemDisk>>) -> Result<Vec
 }
 
 // The station that is opened again owes what the front owes.
-fn disks_of(alloc: Global, peer: ClosedPeer<FuseDisk<MemDisk>>) -> Result<Disks, Fail> {
+fn disks_of(alloc: Global, peer: ClosedPeer<FuseDisk<MemDisk>>) -> Result<PeerDisks, Fail> {
     let ClosedPeer { ends, .. } = peer;
     let Joined { front, tape, .. } = ends;
     let (a, b) = tape.into_disks();
@@ -293,7 +293,7 @@ fn disks_of(alloc: Global, peer: ClosedPeer<FuseDisk<MemDisk>>) -> Result<Disks,
     if owed != want {
         return Err(Fail::from("the debts of the front"));
     }
-    Ok(Disks {
+    Ok(PeerDisks {
         octets,
         totals: station.totals(),
     })
@@ -306,7 +306,7 @@ fn rotated_on_disks<R: Wait>(
     second: PostPeer<FuseDisk<MemDisk>>,
     third: PostPeer<FuseDisk<MemDisk>>,
     intake: Tape<FuseDisk<MemDisk>>,
-) -> Result<Rotated, Fail>
+) -> Result<RotatedPost, Fail>
     requires { IsFlushed first.station × IsFlushed second.station × IsFlushed third.station }
 {
     let peers = vec![in alloc; first, second, third]?;
@@ -316,7 +316,7 @@ fn rotated_on_disks<R: Wait>(
 
 // 700 notes of 100 octets and three of 19, in two batches, each with a head of five octets, and five for its tag and
 // count; and the gate at the end.
-const P_DISKS: Disks = Disks {
+const P_DISKS: PeerDisks = PeerDisks {
     octets: (70_078, 0),
     totals: Totals {
         taken: 703,
@@ -329,7 +329,7 @@ const P_DISKS: Disks = Disks {
 
 // The same, with 700 Drops of ten octets. The second disk has the Base of 54 octets, three debts of 24, the Final of
 // 16 that came after it, and the gate.
-const Q_DISKS: Disks = Disks {
+const Q_DISKS: PeerDisks = PeerDisks {
     octets: (77_078, 143),
     totals: Totals {
         taken: 703,
@@ -341,7 +341,7 @@ const Q_DISKS: Disks = Disks {
 };
 
 // One batch of 50 notes of 100 octets, three of 19 and 50 Drops.
-const R_DISKS: Disks = Disks {
+const R_DISKS: PeerDisks = PeerDisks {
     octets: (5_568, 0),
     totals: Totals {
         taken: 53,
@@ -352,15 +352,15 @@ const R_DISKS: Disks = Disks {
     },
 };
 
-fn rotated_now<R: Wait>(rt: &R, alloc: Global) -> Result<Rotated, Fail> {
+fn rotated_now<R: Wait>(rt: &R, alloc: Global) -> Result<RotatedPost, Fail> {
     let first = fused_peer(alloc, b"p", UNLIMITED, u64::MAX)?;
     let second = fused_peer(alloc, b"q", LIMITED, u64::MAX)?;
     let third = fused_peer(alloc, b"r", LIMITED, u64::MAX)?;
     rotated_on_disks(rt, alloc, first, second, third, fused_intake(alloc)?)
 }
 
-fn wanted(alloc: Global) -> Result<Rotated, Fail> {
-    Ok(Rotated {
+fn wanted(alloc: Global) -> Result<RotatedPost, Fail> {
+    Ok(RotatedPost {
         handed: HandedDebts {
             answered: debt_of(alloc, FIRST_KEPT, b"a/1", b"<x@y>")?,
             second: debt_of(alloc, FIRST_KEPT + 1, b"a/2", b"<y@y>")?,

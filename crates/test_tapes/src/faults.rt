@@ -109,7 +109,7 @@ fn opened_again<D: Disk + Drop>(alloc: Global, disks: (D, D)) -> Result<Tape<D>,
 }
 
 // What is on two disks, and the generation of a rotation of the tape.
-type Rotated<'a> = (&'a [u8], &'a [u8], u64);
+type RotationRow<'a> = (&'a [u8], &'a [u8], u64);
 
 // Disks of these octets, each of which fails the call after a number of calls: if that call is one of the opening,
 // the disks are opened a second time. What a stop leaves then is a prefix with every acknowledged debt. Returns
@@ -117,7 +117,7 @@ type Rotated<'a> = (&'a [u8], &'a [u8], u64);
 fn meets_fault<A: Abort>(
     rt: &A,
     alloc: Global,
-    (first, second, generation): Rotated<'_>,
+    (first, second, generation): RotationRow<'_>,
     calls: CallsLeft,
 ) -> Result<bool, Fail> {
     let disks = flaky(disks_of(alloc, (first, second))?, calls);
@@ -142,7 +142,12 @@ fn calls_before(second: bool, calls: u64) -> CallsLeft {
 }
 
 // How many calls of the first disk, or of the second, can fail.
-fn calls_of<A: Abort>(rt: &A, alloc: Global, tape: Rotated<'_>, second: bool) -> Result<u64, Fail> {
+fn calls_of<A: Abort>(
+    rt: &A,
+    alloc: Global,
+    tape: RotationRow<'_>,
+    second: bool,
+) -> Result<u64, Fail> {
     for calls in 0..CALLS_MAX {
         if !meets_fault(rt, alloc, tape, calls_before(second, calls))? {
             return Ok(calls);
@@ -156,7 +161,7 @@ fn calls_of<A: Abort>(rt: &A, alloc: Global, tape: Rotated<'_>, second: bool) ->
 // after two reads of what comes first there. A flush makes four calls, for two notes or for one, on the disk whose
 // segment is live. A rotation reads from there all debts whose notes are on it, by one call since they are few, and
 // makes eight calls on the other disk, where the next flush of one note goes.
-const TAPES: [(Rotated<'static>, CallsLeft); 4] = [
+const TAPES: [(RotationRow<'static>, CallsLeft); 4] = [
     ((&[], &[], 1), (14, 13)),
     ((&OWED, &[], 1), (17, 13)),
     ((&TORN, &[], 1), (17, 13)),
@@ -218,7 +223,7 @@ fn assert_prefix<A: Abort>(
 fn file_meets_fault<A: Abort>(
     rt: &A,
     alloc: Global,
-    (first, second, generation): Rotated<'_>,
+    (first, second, generation): RotationRow<'_>,
     plans: (Plan, Plan),
 ) -> Result<bool, Fail> {
     let mut tape = tape_of_files(rt, alloc, (first, second), plans)?;
@@ -245,7 +250,7 @@ fn plans_failing(second: bool, calls: u64, kept: usize) -> (Plan, Plan) {
 fn sweep_file<A: Abort>(
     rt: &A,
     alloc: Global,
-    tape: Rotated<'_>,
+    tape: RotationRow<'_>,
     second: bool,
     kept: usize,
 ) -> Result<(), Fail> {
