@@ -1,7 +1,6 @@
--- Worked steps on connections, computed: what goes out, what becomes of debts, and what each step reports. And a run.
+-- Worked steps on connections, computed: what goes out, what becomes of debts, and what each step reports.
 use Rattle.std.proofs.Common.{◌≡◌, ℕ, true, false, None, Some, List, [], ◌∷◌, ◌++◌, refl, inl, inr, arith}
 use Rattle.std.specs.Prelude.{codes}
-use Rattle.disk_model.specs.declared.choice.Choice.{Choice}
 use Rattle.feed_conf.specs.declared.conf.PeerConf.{PeerConf}
 use Rattle.ledger_core.specs.State.{Owing}
 use Rattle.ledger_core.specs.declared.note.Cause.TheVariants.{Deferred as PutOff, Missing}
@@ -17,19 +16,13 @@ use Rattle.peer_queue.specs.declared.settled.Settled.TheVariants.{Answered, Drop
 use Rattle.recovery.specs.Notes.{begun as begun_history}
 use Rattle.world_core.specs.Past.{ConnPast, Life, Past, TapePast}
 use Rattle.world_core.specs.Events.{Settles}
-use Rattle.world_core.specs.Events.AllDo.{Start as NoEvent}
 use Rattle.world_core.specs.Exchange.{TakesConnect, exchange_views, followed_up, fresh_conn, settled_out, unsettled}
 use Rattle.world_core.specs.Exchange.{waiting, with_transcript}
 use Rattle.world_core.specs.ExchangeLaws.{settle_events}
-use Rattle.world_core.specs.Halts.{armed_with}
-use Rattle.world_core.specs.Runs.{RefusesStep, Runs}
-use Rattle.world_core.specs.Runs.Runs.{Next, Start}
-use Rattle.world_core.specs.Safe.{IsSafe}
-use Rattle.world_core.specs.Sound.{IsSoundLife}
-use Rattle.world_core.specs.Steps.{TakesPlan, begun_at, planned}
+use Rattle.world_core.specs.Runs.{RefusesStep}
 use Rattle.world_core.specs.Output.{Closed, Connected, Need, SentLine, View, Settled}
 use Rattle.world_core.specs.declared.fault.Fault.TheVariants.{NoConnection, NoPeer}
-use Rattle.world_core.specs.declared.step.Step.TheVariants.{Begin, Connect, Hand, Stop}
+use Rattle.world_core.specs.declared.step.Step.TheVariants.{Connect, Hand}
 
 -- ---- what follows a step on connection 1, at the moment 60
 
@@ -177,7 +170,7 @@ closed_tells = refl
 
 -- ---- steps of a world
 
-module _ (conf : PeerConf) (choice : Choice) where
+module _ (conf : PeerConf) where
   abbrev tape : TapePast
   tape = record { history = begun_history; log = ([], []); faults = (0, 0); broken = false }
 
@@ -204,31 +197,3 @@ module _ (conf : PeerConf) (choice : Choice) where
 
   hand_refused : RefusesStep (Hand 4) life NoConnection life
   hand_refused = inl (inr (refl, inl (refl, refl, refl)))
-
-  -- a run: the last line's number is kept, and a stop is armed at the third call on the disks of `p`
-  abbrev kept : Life
-  kept = record life { past = begun_at past }
-
-  abbrev armed : Life
-  armed = armed_with (record { rank = Some 0; call = 3; choice = choice }) kept
-
-  begin_takes : TakesPlan Begin past [] (begun_at past)
-  begin_takes = record {
-    plan = planned (begun_at past) [] (λ (later : Past). []);
-    is_plan = refl;
-    mid = begun_at past;
-    does = NoEvent;
-    outputs_are = refl;
-    later_is = refl;
-  }
-
-  run_takes : IsSafe past → IsSoundLife life → IsSafe kept.past → IsSoundLife kept → IsSoundLife armed
-      → Runs life (Begin ∷ Stop (Some (codes "p")) 3 choice ∷ []) ([] ∷ [] ∷ []) armed
-  run_takes safe sound kept_safe kept_sound armed_sound =
-      Next (Begin ∷ []) (Stop (Some (codes "p")) 3 choice) ([] ∷ []) [] kept armed
-      (Next [] Begin [] [] life kept (Start safe sound) (inl (refl, (begun_at past, begin_takes, refl)))
-      kept_safe kept_sound)
-      (inl (Some 0, refl, refl, refl)) kept_safe armed_sound
-
-  kept_number : kept.past.begun ≡ Some 4
-  kept_number = refl
