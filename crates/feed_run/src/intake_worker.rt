@@ -1,5 +1,5 @@
 // The intake: the worker that takes the funnel's lines, batch by batch.
-ghost use Rattle.std.specs.Prelude.{◌≤◌};
+ghost use Rattle.std.specs.Prelude.{◌≡◌, ◌≤◌, IfOk, length, true};
 
 use crate::countdown::Countdown;
 use crate::nowhere::Nowhere;
@@ -270,7 +270,9 @@ impl<F: AllocGlobal + Files<File = File>, W: Write, N: Naming> IntakeWorker<'_, 
         signals: &Signals,
         ordered: &mut VecDeque<Ordered>,
         most: usize,
-    ) -> Result<bool, RunError> {
+    ) -> Result<bool, RunError>
+        ensures within { IfOk result (λ goes_on. goes_on ≡ true → length ordered.new.items ≤ most) }
+    {
         for _ in rt.forever() {
             let waits = ordered.len() > most;
             let Some(oldest) = ordered.front_mut() else {
