@@ -2,15 +2,13 @@
 use Rattle.std.proofs.Common.{◌≡◌, ◌==◌, ℕ, zero, suc, ◌<◌, ◌≤◌, Bool, true, false, cond, Option, Some, None, List, []}
 use Rattle.std.proofs.Common.{◌∷◌, refl, sym, ap, ◌∙◌, subst, arith}
 use Rattle.std.specs.Prelude.{◌↔◌, IfNone, IfSome, IsSome, IsTrue, is_some, length, not}
-use Rattle.std.specs.Ordering.{is_eq, nat_cmp}
-use Rattle.std.specs.Map.{lookup}
-use Rattle.std.specs.BTreeMap.{BTreeMap, btree_map_len, get}
+use Rattle.std.specs.BTreeSet.{BTreeSet, btree_set_len}
 use Rattle.std.specs.List.{All}
 use Rattle.std.proofs.lemmas.Bool.{eqb-true, eq-eqb, ne_eqb}
 use Rattle.std.proofs.lemmas.List.Elements.{All-nil, All-cons, All-head, All-tail}
 use Rattle.deferral.specs.Due.{Waiting, IsDue, IsRising, due_of}
 use Rattle.peer_queue.specs.DebtPlace.{DebtPlace, IsLater, Places}
-use Rattle.peer_queue.specs.Index.{Holders, due_at, place_by, place_for, places_by}
+use Rattle.peer_queue.specs.Index.{Holders, due_at, holder_in, place_by, place_for, places_by}
 use Rattle.peer_queue.specs.declared.wait.Readiness.TheVariants.{Ready, Until}
 use Rattle.peer_queue.proofs.Moves.{above_at, at_head, in_tail}
 
@@ -79,19 +77,14 @@ none_due h agenda now n ready all due =
 
 -- ---- what the two tests find
 
-lookup_empty : {K X : Type 0} (test : K → Bool) (entries : List (K × X)) → (0 < length entries → ⊥)
-    → lookup test entries ≡ None
-lookup_empty test [] empty = refl
-lookup_empty test (e ∷ entries) empty = absurd (empty (omega arith))
+none_of : (pairs : List (ℕ × ℕ)) (n : ℕ) → (0 < length pairs → ⊥) → IsSome (holder_in pairs n) → ⊥
+none_of [] n empty some = cc
+none_of (x ∷ xs) n empty some = empty (omega arith)
 
--- if no number has a holder, none is held
-pub none_in : (holders : BTreeMap ℕ ℕ) (n : ℕ) → (IsSome {T = ℕ × ℕ} None ↔ (0 < btree_map_len holders))
-    → IsSome (get nat_cmp holders n) → ⊥
-none_in holders n empty held =
-    let gone : get nat_cmp holders n ≡ None =
-    lookup_empty (λ k. is_eq (nat_cmp n k)) holders.entries (λ some. let has = empty.1 some in cc) in
-    let some : IsSome {T = ℕ} None = subst IsSome gone held in
-    cc
+-- if there is no pair, none is held
+pub none_in : (held : BTreeSet (ℕ × ℕ)) (n : ℕ) → (IsSome {T = ℕ × ℕ} None ↔ (0 < btree_set_len held))
+    → IsSome (holder_in held.keys n) → ⊥
+none_in held n empty some = none_of held.keys n (λ long. let has = empty.1 long in cc) some
 
 -- if there is no least one that is due exactly if this holds, the test says so
 pub told : {A : Type 0} (r : Option ℕ) (b : Bool) (P : ℕ → Type 0) (N : Type 0) → is_some r ≡ not b → IfSome r P

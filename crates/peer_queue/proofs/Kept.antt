@@ -1,7 +1,6 @@
 -- What an index keeps when a number is held or given up.
 use Rattle.std.proofs.Common.{◌≡◌, ◌==◌, ◌^◌, ℕ, zero, suc, ◌<◌, ◌≤◌, Bool, true, false, cond, Option, Some, None, [], ◌∷◌, refl, sym, ap, ◌∙◌, subst, arith}
 use Rattle.std.specs.Prelude.{◌↔◌, IsSome, option_map, Result, Ok, Err, OnOk, OnErr}
-use Rattle.std.specs.Result.{is_err}
 use Rattle.std.specs.Ordering.{is_eq, is_gt, nat_cmp, ordering_then}
 use Rattle.std.specs.declared.cmp.Ordering.{Ordering}
 use Rattle.std.specs.declared.cmp.Ordering.TheVariants.{Less, Equal, Greater}
@@ -42,12 +41,9 @@ pair_same c n b m who same =
     subst (λ (x : ℕ). is_eq (pair_cmp (c, n) (x, m)) ≡ true) who
     (subst (λ (x : ℕ). is_eq (pair_cmp (c, n) (c, x)) ≡ true) same (pair_self c n))
 
-not_true : (b : Bool) → (b ≡ true → ⊥) → b ≡ false
+pub not_true : (b : Bool) → (b ≡ true → ⊥) → b ≡ false
 not_true true h = absurd (h refl)
 not_true false h = refl
-
-pub nat_apart : (n m : ℕ) → (m ≡ n → ⊥) → is_eq (nat_cmp n m) ≡ false
-nat_apart n m apart = not_true (is_eq (nat_cmp n m)) (λ e. apart (sym (nat_at n m e)))
 
 -- ---- the place of a number
 
@@ -110,11 +106,11 @@ cond_true : (b c : Bool) → c ≡ true → cond b true c ≡ true
 cond_true true c e = refl
 cond_true false c e = e
 
-split_true : {P : Type 0} (b c : Bool) → (b ≡ true → P) → (c ≡ true → P) → cond b true c ≡ true → P
+pub split_true : {P : Type 0} (b c : Bool) → (b ≡ true → P) → (c ≡ true → P) → cond b true c ≡ true → P
 split_true true c f g e = f refl
 split_true false c f g e = g e
 
-split_false : {P : Type 0} (b c : Bool) → (b ≡ false → c ≡ true → P) → cond b false c ≡ true → P
+pub split_false : {P : Type 0} (b c : Bool) → (b ≡ false → c ≡ true → P) → cond b false c ≡ true → P
 split_false true c f e = cc
 split_false false c f e = f refl e
 
@@ -206,25 +202,6 @@ kept_free agenda agenda' h k n kept rising dues nobody due fits = record {
       (λ apart. kept.moments m t (sym (dues m apart) ∙ e));
 }
 
--- pairs that are the same say the same
-pub kept_same : (agenda : Waiting) (h h' : Holders) (k k' : ℕ → ℕ → Bool) → IsKept agenda h k → ((m : ℕ) → h' m ≡ h m) → ((b m : ℕ) → k' b m ≡ k b m) → IsKept agenda h' k'
-kept_same agenda h h' k k' kept others pairs = record {
-  rising = kept.rising;
-  held = λ m. subst (λ (o : Option ℕ). (due_of agenda m ≡ Some None) ↔ IsSome o) (sym (others m)) (kept.held m);
-  told = λ b m. subst (λ (x : Bool). (x ≡ true) ↔ (h' m ≡ Some b)) (sym (pairs b m))
-      (subst (λ (o : Option ℕ). (k b m ≡ true) ↔ (o ≡ Some b)) (sym (others m)) (kept.told b m));
-  moments = kept.moments;
-}
-
-back_step : (b c : Bool) → (b ≡ true → c ≡ false) → cond b false (cond b true c) ≡ c
-back_step true c f = sym (f refl)
-back_step false c f = refl
-
--- a pair that was put in and taken out again
-pub pair_back : (agenda : Waiting) (h : Holders) (k : ℕ → ℕ → Bool) (c n d b m : ℕ) → IsKept agenda h k → due_of agenda n ≡ Some (Some d) → cond (is_eq (pair_cmp (c, n) (b, m))) false (cond (is_eq (pair_cmp (c, n) (b, m))) true (k b m)) ≡ k b m
-pair_back agenda h k c n d b m kept was = back_step (is_eq (pair_cmp (c, n) (b, m))) (k b m) (λ at.
-    not_true (k b m) (λ old. free h agenda k n b d kept was (ap h (pair_at c n b m at).1 ∙ (kept.told b m).0 old)))
-
 -- ---- what a call says of the moments afterwards
 
 pub other_due : {X : Type 0} (n m : ℕ) (x o : X) → (m ≡ n → ⊥) → cond (n == m) x o ≡ o
@@ -263,14 +240,6 @@ kept_put (Ok t) agenda agenda' h k n kept none ok err moments rising =
     (some_apart (due_of (added agenda n (Some 0)) n) 0 own)
     (λ t. some_fits (due_of (added agenda n (Some 0)) n) 0 t own (omega arith)))
 kept_put (Err e) agenda agenda' h k n kept none ok err moments rising = subst (λ (w : Waiting). IsKept w h k) (sym err) kept
-
-pub ok_of : {T E : Type 0} {P : Type 0} (result : Result T E) → OnOk result P → is_err result ≡ false → P
-ok_of (Ok t) p e = p
-ok_of (Err t) p e = cc
-
-pub err_of : {T E : Type 0} {P : Type 0} (result : Result T E) → OnErr result P → is_err result ≡ true → P
-err_of (Ok t) p e = cc
-err_of (Err t) p e = p
 
 -- ---- the first pair of a connection
 

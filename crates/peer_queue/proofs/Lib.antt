@@ -5,6 +5,7 @@ pub mod Cuts
 pub mod EndFaults
 pub mod Ends
 pub mod Prefixes
+pub mod Holders
 pub mod Inserted
 pub mod Kept
 pub mod Moves

@@ -1,5 +1,5 @@
 -- A front's places and the shape of its ledger: which notes are legal, and why one is refused.
-use Rattle.std.proofs.Common.{◌≡◌, ◌==◌, ◌⊎◌, inl, inr, ℕ, zero, suc, ◌+◌, ◌<◌, ◌≤◌, ◌^◌, Bool, true, false, cond}
+use Rattle.std.proofs.Common.{◌≡◌, ◌==◌, ℕ, zero, suc, ◌+◌, ◌<◌, ◌≤◌, ◌^◌, Bool, true, false, cond}
 use Rattle.std.proofs.Common.{Option, Some, None, List, [], ◌∷◌, length, refl, sym, ap, subst, arith}
 use Rattle.std.specs.Prelude.{option_map}
 use Rattle.std.specs.List.{All, Contains}
@@ -30,7 +30,6 @@ use Rattle.peer_queue.specs.DebtPlace.{place_at, placed, with_place}
 use Rattle.peer_queue.specs.Shapes.{AllFit, RefusesByShape, shape_after}
 use Rattle.peer_queue.specs.Shed.{dropped}
 use Rattle.peer_queue.specs.Words.{IsEnd}
-use Rattle.peer_queue.specs.declared.fault.StationFault.TheVariants.{NoMemory, Tape as TapeRefused}
 use Rattle.peer_queue.proofs.EndFaults.{held_placed}
 use Rattle.peer_queue.proofs.Ends.{placed_shape}
 use Rattle.peer_queue.proofs.Inserted.{same_with}
@@ -103,20 +102,6 @@ none_refused shape note OldNumber fits refused = old-fits shape note refused fit
 none_refused shape note NotOwed fits refused = lacks-fits shape note refused fits
 none_refused shape note CountFull fits refused = overflows-fits shape note refused fits
 none_refused shape note NoLedgerMemory fits refused = refused
-
--- a front that works refuses a legal note only for want of room or of memory
-pub end_fault : (shape : Shape) (note : Note) (fault : TapeFault) → FitsShape shape note → IsNoteFault fault
-    → (fault ≡ Broken → ⊥) → ((cause : LedgerFault) → fault ≡ RefusedNote cause → RefusesByShape shape note cause)
-    → (station_fault fault ≡ TapeRefused PendingFull) ⊎ (station_fault fault ≡ NoMemory)
-end_fault shape note (Damaged segment at) fits kind works refused = absurd kind
-end_fault shape note Disk fits kind works refused = absurd kind
-end_fault shape note Broken fits kind works refused = absurd (works refl)
-end_fault shape note TapeFull fits kind works refused = absurd kind
-end_fault shape note GenerationFull fits kind works refused = absurd kind
-end_fault shape note PendingFull fits kind works refused = inl refl
-end_fault shape note NoTapeMemory fits kind works refused = inr refl
-end_fault shape note (RefusedNote cause) fits kind works refused =
-    absurd (none_refused shape note cause fits (refused cause refl))
 
 -- ---- what is shed
 

@@ -1,7 +1,7 @@
--- What an index of places holds: the moment at which each number is due, if any, and who holds what, by number and by
--- connection.
-use Rattle.std.specs.Prelude.{◌≡◌, ◌↔◌, ◌<◌, ◌^◌, ℕ, Bool, true}
-use Rattle.std.specs.Prelude.{Option, Some, None, IsSome, map, unwrap_or}
+-- What an index of places holds: the moment at which each number is due, if any, and who holds what.
+use Rattle.std.specs.Prelude.{◌≡◌, ◌==◌, ◌↔◌, ◌<◌, ◌^◌, ℕ, Bool, true, List}
+use Rattle.std.specs.Prelude.{Option, Some, None, IsSome, find, map, option_map, unwrap_or}
+use Rattle.std.specs.BTreeSet.{BTreeSet, contains}
 use Rattle.std.specs.Ordering.{nat_cmp, ordering_then}
 use Rattle.std.specs.declared.cmp.Ordering.{Ordering}
 use Rattle.deferral.specs.Due.{Waiting, IsRising, due_of}
@@ -16,6 +16,15 @@ pair_cmp one other = ordering_then (nat_cmp one.0 other.0) (nat_cmp one.1 other.
 -- who holds a number, if one does
 abbrev pub Holders : Type 0
 Holders = ℕ → Option ℕ
+
+-- who holds a number, by pairs of a connection and a number that it holds
+abbrev pub holder_in : List (ℕ × ℕ) → Holders
+holder_in pairs number =
+    option_map (λ (pair : ℕ × ℕ). pair.0) (find (λ (pair : ℕ × ℕ). pair.1 == number) pairs)
+
+-- whether a connection holds a number, by such pairs
+abbrev pub holds : BTreeSet (ℕ × ℕ) → ℕ → ℕ → Bool
+holds held connection number = contains pair_cmp held (connection, number)
 
 -- the place of a number that waits for this
 abbrev pub place_for : Readiness → DebtPlace
@@ -41,7 +50,7 @@ pub record IsKept (agenda : Waiting) (holders : Holders) (holds : ℕ → ℕ �
   pub rising : IsRising agenda
   -- a number is due at no moment exactly if a connection holds it
   pub held : (number : ℕ) → (due_of agenda number ≡ Some None) ↔ IsSome (holders number)
-  -- both indexes agree on who holds what
+  -- no number is held twice
   pub told : (connection number : ℕ) → (holds connection number ≡ true) ↔ (holders number ≡ Some connection)
   -- each moment is one of 64 bits
   pub moments : (number moment : ℕ) → due_of agenda number ≡ Some (Some moment) → moment < 2 ^ 64

@@ -15,7 +15,7 @@ use crate::{Limits, Owed, Shed, StationFault};
 use conn_core::{CxnId, Deferral, Outcome, Verdict};
 use funnel::{MsgId, Token};
 use ledger_core::{Cause, Debt, Key, Note, Totals};
-use recovery::Flushed;
+use recovery::{Flushed, TapeFault};
 use std::alloc::{AllocError, Global};
 
 /// All that one peer is owed, without its tape.
@@ -598,11 +598,17 @@ impl Front {
     {
         // What was taken is a sum with what has ended, so no count passes the greatest number.
         let _totals = self.outbox.outline.totals();
-        if let Err((_, fault)) = self.outbox.note(note) {
-            return Err(station_fault(fault));
+        if self.outbox.room() == 0 {
+            return Err(StationFault::Tape(TapeFault::PendingFull));
         }
-        self.index.end(connection, key);
-        Ok(())
+        // What is held is owed, so the note is legal.
+        match self.outbox.pend(note) {
+            Ok(()) => {
+                self.index.end(connection, key);
+                Ok(())
+            }
+            Err(_) => Err(StationFault::NoMemory),
+        }
     }
 
     // Makes a debt that this connection holds wait for this.

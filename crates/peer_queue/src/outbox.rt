@@ -169,8 +169,8 @@ impl Outbox {
         }
     }
 
-    // Takes a note that is legal, if one more may pend, or hands it back if memory was refused.
-    fn pend(&mut self, note: Note) -> Result<(), Note>
+    /// Takes a note that is legal, if one more may pend, or hands it back if memory was refused.
+    pub fn pend(&mut self, note: Note) -> Result<(), Note>
         requires legal { FitsShape (box_shape self.old) note }
         requires room { length (unsettled_in self.old) < most_pending }
         ensures ok { OnOk result (Pends (note ∷ []) self.old self.new) }

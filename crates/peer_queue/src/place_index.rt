@@ -13,7 +13,7 @@ use conn_core::CxnId;
 use deferral::{Later, after_put, after_remove, after_set};
 use ledger_core::Key;
 use std::alloc::{AllocError, Global};
-use std::collections::{BTreeMap, BTreeSet};
+use std::collections::BTreeSet;
 use std::marker::Model;
 
 /// The place of each key, found by the key, by its moment, and by who holds it.
@@ -23,26 +23,23 @@ use std::marker::Model;
 pub(crate) struct PlaceIndex {
     // Each key, with the moment at which it is due: that of its wait, or none if a connection holds it.
     agenda: Later,
-    // The connection that holds a key.
-    holders: BTreeMap<Key, u64>,
-    // What a connection holds: pairs of connection and key.
+    // What is held: pairs of a connection and a key.
     held: BTreeSet<(u64, Key)>,
 }
 
 impl Model for PlaceIndex {
     ghost use Rattle.std.specs.Prelude.{ℕ};
     ghost use Rattle.std.specs.Ordering.{nat_cmp};
-    ghost use Rattle.std.specs.BTreeMap.{get};
-    ghost use Rattle.std.specs.BTreeSet.{contains};
+    ghost use Rattle.std.specs.BTreeSet.{keys};
     ghost use Rattle.peer_queue.specs.DebtPlace.{Places};
-    ghost use Rattle.peer_queue.specs.Index.{IsKept, pair_cmp, places_by};
+    ghost use Rattle.peer_queue.specs.Index.{IsKept, holds, holder_in, places_by};
 
     ghost Value = { Places };
 
-    ghost view = { λ index. places_by (get nat_cmp index.holders) index.agenda };
+    ghost view = { λ index. places_by (holder_in (keys index.held)) index.agenda };
 
-    ghost invariant = { λ index. IsKept index.agenda (get nat_cmp index.holders)
-        (λ connection key. contains pair_cmp index.held (connection, key)) };
+    ghost invariant = { λ index. IsKept index.agenda (holder_in (keys index.held))
+        (holds index.held) };
 }
 
 impl PlaceIndex {
@@ -52,7 +49,6 @@ impl PlaceIndex {
     {
         PlaceIndex {
             agenda: Later::new(alloc),
-            holders: BTreeMap::new(alloc),
             held: BTreeSet::new(alloc),
         }
     }
@@ -84,10 +80,7 @@ impl PlaceIndex {
     pub fn is_held_by(&self, connection: CxnId, key: Key) -> bool
         ensures { IsTrue result ↔ IsHeldBy self.now connection.0 key }
     {
-        match self.holders.get(&key) {
-            Some(holder) => *holder == connection.0,
-            None => false,
-        }
+        self.held.contains(&(connection.0, key))
     }
 
     /// A connection holds this key from now on; none held it before.
@@ -102,10 +95,6 @@ impl PlaceIndex {
         // For the prover: the same keys wait, and they rise.
         after_set();
         self.held.insert((connection.0, key))?;
-        if self.holders.insert(key, connection.0).is_err() {
-            self.held.remove(&(connection.0, key));
-            return Err(AllocError);
-        }
         self.agenda.set(key, None);
         Ok(())
     }
@@ -116,7 +105,6 @@ impl PlaceIndex {
         ensures { self.new ≡ moved self.old key (place_for wait) }
     {
         self.held.remove(&(connection.0, key));
-        self.holders.remove(&key);
         // For the prover: the same keys wait, and they rise.
         after_set();
         self.agenda.set(key, Some(wait.due_at()));
@@ -138,7 +126,6 @@ impl PlaceIndex {
         ensures { self.new ≡ gone self.old key }
     {
         self.held.remove(&(connection.0, key));
-        self.holders.remove(&key);
         // For the prover: the others wait as before, and they rise.
         after_remove();
         self.agenda.remove(key);
@@ -185,7 +172,7 @@ impl PlaceIndex {
     pub fn all_later(&self) -> bool
         ensures { IsTrue result ↔ All (λ entry. IsLater entry.1) self.now }
     {
-        match self.holders.first_key_value() {
+        match self.held.first() {
             Some(_) => false,
             None => self.agenda.due_least(Readiness::Ready.due_at()).is_none(),
         }

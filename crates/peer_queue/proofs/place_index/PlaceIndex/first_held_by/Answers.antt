@@ -1,11 +1,9 @@
 use Rattle.std.proofs.Common.{◌≡◌, List, ℕ, Bool, true, false, Option, sym, subst}
 use Rattle.std.specs.Prelude.{IfNone, IfSome}
 use Rattle.std.specs.List.{slice_get}
-use Rattle.std.specs.Ordering.{nat_cmp}
-use Rattle.std.specs.BTreeMap.{get}
 use Rattle.std.specs.BTreeSet.{contains}
 use Rattle.peer_queue.specs.DebtPlace.{AreRising, IsHeldBy, Places}
-use Rattle.peer_queue.specs.Index.{Holders, pair_cmp}
+use Rattle.peer_queue.specs.Index.{Holders, holder_in, holds, pair_cmp}
 use Rattle.std.specs.Ordering.{is_gt}
 use Rattle.std.specs.BTreeMap.Range.{IsInRange}
 use Rattle.std.specs.declared.ops.Bound.TheVariants.{Included, Unbounded}
@@ -16,8 +14,8 @@ use Rattle.peer_queue.proofs.place_index.PlaceIndex.first_held_by.Goals as goal
 pub returns-in_err-holder-clause-none : goal.returns-in_err-holder-clause-none
 returns-in_err-holder-clause-none c =
     let agenda = c.self.inside.agenda in
-    let h : Holders = get nat_cmp c.self.inside.holders in
-    let k : ℕ → ℕ → Bool = λ b m. contains pair_cmp c.self.inside.held (b, m) in
+    let h : Holders = holder_in c.self.inside.held.keys in
+    let k : ℕ → ℕ → Bool = holds c.self.inside.held in
     let b = c.args.connection.0 in
     let told : (n : ℕ) → IsHeldBy c.args.self.now b n → contains pair_cmp c.self.inside.held (b, n) ≡ true = λ n held.
     let here = subst (λ (p : Places). IsHeldBy p b n) (sym c.self.view_is) held in
@@ -28,8 +26,8 @@ returns-in_err-holder-clause-none c =
 pub returns-then-holder-connection-clause-some : goal.returns-then-holder-connection-clause-some
 returns-then-holder-connection-clause-some c =
     let agenda = c.self.inside.agenda in
-    let h : Holders = get nat_cmp c.self.inside.holders in
-    let k : ℕ → ℕ → Bool = λ b m. contains pair_cmp c.self.inside.held (b, m) in
+    let h : Holders = holder_in c.self.inside.held.keys in
+    let k : ℕ → ℕ → Bool = holds c.self.inside.held in
     let b = c.args.connection.0 in
     let key = c.in_ok-holder.field-0.now in
     let first = subst (λ (l : List (ℕ × ℕ)). IfSome (slice_get l 0) (λ (q : ℕ × ℕ). IsInRange pair_cmp (Included (b, c.new.result)) Unbounded q × (contains pair_cmp c.self.inside.held q ≡ true))) c.in_ok-holder.ensures.steps (c.range.ensures.in_range tt).1 in
@@ -40,8 +38,8 @@ returns-then-holder-connection-clause-some c =
 pub returns-else-holder-connection-clause-none : goal.returns-else-holder-connection-clause-none
 returns-else-holder-connection-clause-none c =
     let agenda = c.self.inside.agenda in
-    let h : Holders = get nat_cmp c.self.inside.holders in
-    let k : ℕ → ℕ → Bool = λ b m. contains pair_cmp c.self.inside.held (b, m) in
+    let h : Holders = holder_in c.self.inside.held.keys in
+    let k : ℕ → ℕ → Bool = holds c.self.inside.held in
     let b = c.args.connection.0 in
     let key = c.in_ok-holder.field-0.now in
     let first = subst (λ (l : List (ℕ × ℕ)). IfSome (slice_get l 0) (λ (q : ℕ × ℕ). IsInRange pair_cmp (Included (b, c.new.result)) Unbounded q × (contains pair_cmp c.self.inside.held q ≡ true))) c.in_ok-holder.ensures.steps (c.range.ensures.in_range tt).1 in
@@ -53,10 +51,10 @@ returns-else-holder-connection-clause-none c =
     c.if-holder-connection.false (kept.between b n key low least)
 
 pub returns-in_err-holder-clause-rising : goal.returns-in_err-holder-clause-rising
-returns-in_err-holder-clause-rising c = subst AreRising c.self.view_is (rising_by (get nat_cmp c.self.inside.holders) c.self.inside.agenda c.self.invariant.rising)
+returns-in_err-holder-clause-rising c = subst AreRising c.self.view_is (rising_by (holder_in c.self.inside.held.keys) c.self.inside.agenda c.self.invariant.rising)
 
 pub returns-then-holder-connection-clause-rising : goal.returns-then-holder-connection-clause-rising
-returns-then-holder-connection-clause-rising c = subst AreRising c.self.view_is (rising_by (get nat_cmp c.self.inside.holders) c.self.inside.agenda c.self.invariant.rising)
+returns-then-holder-connection-clause-rising c = subst AreRising c.self.view_is (rising_by (holder_in c.self.inside.held.keys) c.self.inside.agenda c.self.invariant.rising)
 
 pub returns-else-holder-connection-clause-rising : goal.returns-else-holder-connection-clause-rising
-returns-else-holder-connection-clause-rising c = subst AreRising c.self.view_is (rising_by (get nat_cmp c.self.inside.holders) c.self.inside.agenda c.self.invariant.rising)
+returns-else-holder-connection-clause-rising c = subst AreRising c.self.view_is (rising_by (holder_in c.self.inside.held.keys) c.self.inside.agenda c.self.invariant.rising)

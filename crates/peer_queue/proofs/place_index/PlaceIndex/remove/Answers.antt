@@ -1,10 +1,7 @@
 use Rattle.std.proofs.Common.{◌≡◌, ◌==◌, ℕ, Bool, cond, None, refl, sym, ap, ◌∙◌, subst}
-use Rattle.std.specs.Ordering.{nat_cmp}
-use Rattle.std.specs.BTreeMap.{get}
-use Rattle.std.specs.BTreeSet.{contains}
 use Rattle.deferral.specs.Due.{Waiting, IsRising, due_of}
 use Rattle.peer_queue.specs.DebtPlace.{IsUnheld, Places, gone}
-use Rattle.peer_queue.specs.Index.{Holders, pair_cmp, places_by}
+use Rattle.peer_queue.specs.Index.{Holders, holder_in, holds, places_by}
 use Rattle.peer_queue.proofs.Kept as kept
 use Rattle.peer_queue.proofs.Moves as moves
 use Rattle.peer_queue.proofs.place_index.PlaceIndex.remove.Goals as goal
@@ -12,8 +9,8 @@ use Rattle.peer_queue.proofs.place_index.PlaceIndex.remove.Goals as goal
 pub invariant_of-self : goal.invariant_of-self
 invariant_of-self c =
     let agenda = c.self.inside.agenda in
-    let h : Holders = get nat_cmp c.self.inside.holders in
-    let k : ℕ → ℕ → Bool = λ b m. contains pair_cmp c.self.inside.held (b, m) in
+    let h : Holders = holder_in c.self.inside.held.keys in
+    let k : ℕ → ℕ → Bool = holds c.self.inside.held in
     let n = c.args.key in
     let was = kept.unheld_due h agenda n (subst (λ (p : Places). IsUnheld p n) (sym c.self.view_is) c.requires) in
     let new = c.remove.ensures.new in
@@ -28,6 +25,6 @@ invariant_of-self c =
 pub returns : goal.returns
 returns c =
     let agenda = c.self.inside.agenda in
-    let h : Holders = get nat_cmp c.self.inside.holders in
-    let k : ℕ → ℕ → Bool = λ b m. contains pair_cmp c.self.inside.held (b, m) in
+    let h : Holders = holder_in c.self.inside.held.keys in
+    let k : ℕ → ℕ → Bool = holds c.self.inside.held in
     ap (places_by h) c.remove.ensures.new ∙ (moves.gone_by h h agenda c.args.key c.self.invariant.rising (λ m apart. refl) ∙ ap (λ (p : Places). gone p c.args.key) c.self.view_is)
