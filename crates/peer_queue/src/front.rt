@@ -189,6 +189,22 @@ impl Front {
         self.outbox.unsettled(key)
     }
 
+    /// The least key above this one that is owed and that no connection holds: what can be claimed next after it, now
+    /// or later.
+    pub fn next_unheld(&self, key: Key) -> Option<Key>
+        ensures { result ≡ find (λ other. nat_lt key other) (unheld (places_of self.now)) }
+    {
+        match key.next() {
+            Some(next) => self.index.unheld_from(next),
+            None => {
+                // It has 64 bits, so the last key is above all that are owed.
+                let _import_mark = self.outbox.outline.import_mark();
+                let _closed = self.outbox.outline.closed();
+                None
+            }
+        }
+    }
+
     /// Settles a debt by the peer's final answer.
     ///
     /// # Errors
@@ -619,21 +635,6 @@ impl Front {
             ≡ moved (places_of self.old) key (place_for wait) }
     {
         self.index.give_up(connection, key, wait);
-    }
-
-    // The least key above this one that no connection holds.
-    fn next_unheld(&self, key: Key) -> Option<Key>
-        ensures { result ≡ find (λ other. nat_lt key other) (unheld (places_of self.now)) }
-    {
-        match key.next() {
-            Some(next) => self.index.unheld_from(next),
-            None => {
-                // It has 64 bits, so the last key is above all that are owed.
-                let _import_mark = self.outbox.outline.import_mark();
-                let _closed = self.outbox.outline.closed();
-                None
-            }
-        }
     }
 
     // The keys to shed, oldest first: at most one more than there is room for.
