@@ -21,7 +21,8 @@ pub(crate) struct PostView<'a, D: Disk, N: Naming, P: Pace> {
     pub due: u64,
     /// Whether debts are claimed: not if the run is to end.
     pub claims: bool,
-    /// Whether a call waits for a station that is in use. Otherwise it is refused with `Busy`.
+    /// Whether a call waits for a tape that is in use; otherwise it is refused with `Busy`. The same goes for a front,
+    /// except that `claim` and `finish` always wait for it.
     pub waits: bool,
 }
 
@@ -50,7 +51,7 @@ impl<D: Disk, N: Naming, P: Pace> PostView<'_, D, N, P> {
     /// Takes to the station what became of a debt that this connection held.
     ///
     /// # Errors
-    /// The outcome comes back with the post's fault, `Busy` only if `waits` is false, or `NoPeer`.
+    /// The outcome comes back with the post's fault, or `NoPeer`.
     pub fn finish<R: Wait>(
         &self,
         rt: &R,
@@ -63,13 +64,9 @@ impl<D: Disk, N: Naming, P: Pace> PostView<'_, D, N, P> {
             return Err((outcome, FeederFault::NoPeer));
         }
         self.pace.turn(self.who, flusher::Place::BeforeSettle);
-        let ended = if self.waits {
-            self.post
-                .finish(rt, peer, connection, outcome, self.now, share)
-        } else {
-            self.post
-                .try_finish(rt, peer, connection, outcome, self.now, share)
-        };
+        let ended = self
+            .post
+            .finish(rt, peer, connection, outcome, self.now, share);
         self.pace.turn(self.who, flusher::Place::AfterSettle);
         match ended {
             Ok(_) => Ok(()),

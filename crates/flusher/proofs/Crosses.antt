@@ -9,6 +9,7 @@ use Rattle.atomic_table.proofs.shared.Seat.TheSendSync as seat
 use Rattle.atomic_table.proofs.shared.Shared.TheSendSync as shared
 use Rattle.atomic_table.proofs.send_lease.SendLease.TheSendSync as lease
 use Rattle.ledger_core.proofs.key.Key.TheSendSync as key
+use Rattle.ledger_core.proofs.note.Debt.TheSendSync as debt
 use Rattle.ledger_core.proofs.note.Note.TheSendSync as note
 use Rattle.ledger_core.proofs.part.Part.TheSendSync as part
 use Rattle.ledger_core.proofs.spot.Spot.TheSendSync as spot
@@ -28,6 +29,7 @@ use Rattle.peer_queue.specs.contracts.outbox.Outbox as Outbox
 use Rattle.peer_queue.specs.contracts.front.Front as Front
 use Rattle.note_queue.specs.contracts.sender.Sender as Sender
 use Rattle.note_queue.specs.contracts.side.Side as Side
+use Rattle.flusher.specs.contracts.read_ahead.ReadAhead as ReadAhead
 use Rattle.flusher.specs.contracts.front_desk.FrontDesk as FrontDesk
 use Rattle.flusher.specs.contracts.tape_desk.TapeDesk as TapeDesk
 use Rattle.flusher.specs.contracts.post.PeerDesk as PeerDesk
@@ -53,6 +55,9 @@ Front-send = search (Outbox-send, Later-send, key.the_send, sendable, crosses, m
 Sender-send : IsSend Sender.the_field.row
 Sender-send = search (Front-send, note.the_field_send, seat.the_send, sendable, crosses) depth 20
 
+ReadAhead-send : IsSend ReadAhead.the_field.row
+ReadAhead-send = search (debt.the_send, key.the_send, sendable, crosses) depth 20
+
 pub Signals-sync : IsSync Signals.the_field.row
 Signals-sync = search (latest.the_field_send, sendable, crosses) depth 20
 
@@ -68,7 +73,7 @@ module _ (D : RattleType) (g : disk.Ghosts D.Denot) where
 
 module _ (N : RattleType) (n : naming.Ghosts N.Denot) where
   FrontDesk-send : IsSend N → IsSync N → IsSend (FrontDesk.the_field N n).row
-  FrontDesk-send t y = search (Sender-send, share.the_send, sendable, crosses) depth 20
+  FrontDesk-send t y = search (Sender-send, ReadAhead-send, share.the_send, sendable, crosses) depth 20
 
 module _ (D N : RattleType) (g : disk.Ghosts D.Denot) (n : naming.Ghosts N.Denot) where
   TapeDesk-send : IsSend D → IsSend N → IsSend (TapeDesk.the_field D N g n).row

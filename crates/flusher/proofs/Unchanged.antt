@@ -36,6 +36,7 @@ module _ {N : Type 0} {n : Ghosts N} where
         dropped = desk.dropped;
         acknowledged = desk.acknowledged;
         has_failed = desk.has_failed;
+        ahead = desk.ahead;
         one_part = one_part;
         counted = counted;
         sum = sum;
@@ -52,6 +53,7 @@ module _ {N : Type 0} {n : Ghosts N} where
     dropped = desk.dropped;
     acknowledged = desk.acknowledged;
     has_failed = desk.has_failed;
+    ahead = desk.ahead;
     one_part = is_prop→PathP (λ j. OnePart desk) (λ j. hlevel props) one_part desk.one_part i;
     counted = is_prop→PathP (λ j. Counted desk (same j)) (λ j. hlevel props) counted desk.counted i;
     sum = is_prop→PathP (λ j. Sum desk) (λ j. hlevel props) sum desk.sum i;

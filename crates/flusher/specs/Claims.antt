@@ -1,7 +1,7 @@
 -- What a claim leaves of a front.
 use Rattle.std.specs.Prelude.{◌≡◌, ◌⊎◌, ℕ, None, Some}
 use Rattle.flusher.specs.declared.front_desk.Claimed.{Claimed}
-use Rattle.flusher.specs.declared.front_desk.Claimed.TheVariants.{Nothing, Debt, OnTape}
+use Rattle.flusher.specs.declared.front_desk.Claimed.TheVariants.{Nothing, Debt, ReadBefore, OnTape}
 use Rattle.peer_queue.specs.Front.{IsBroken, IsSame, KeepsNotes, places_of}
 use Rattle.peer_queue.specs.FrontCalls.{IsTextOf}
 use Rattle.peer_queue.specs.DebtPlace.{Held, IsHeldBy, Ready, least_candidate, moved}
@@ -12,12 +12,13 @@ pub record Holds (connection now key : ℕ) (old new : Front) : Type 0 where
   pub least : least_candidate now (places_of old) ≡ Some key
   pub places : places_of new ≡ moved (places_of old) key (Held connection)
 
--- What a claim found: no candidate; or the least one, which the connection holds now, with its texts; or only its key,
--- if no note of the front has these.
+-- What a claim found: no candidate; or the least one, which the connection holds now, with its texts; or with those
+-- that were read from the tape before; or only its key, if no note of the front has these.
 abbrev pub Claims : (connection now : ℕ) → Front → Front → Claimed → Type 0
 Claims connection now old new Nothing =
     (least_candidate now (places_of old) ≡ None) × (places_of new ≡ places_of old)
 Claims connection now old new (Debt debt) = Holds connection now debt.0 old new × IsTextOf old debt.0 (Some debt)
+Claims connection now old new (ReadBefore debt) = Holds connection now debt.0 old new
 Claims connection now old new (OnTape key) = Holds connection now key old new × IsTextOf old key None
 
 -- A claim was refused: nothing has changed; or the least candidate, for which there was no memory, is ready.

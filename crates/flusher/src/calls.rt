@@ -102,6 +102,16 @@ impl<D: Disk, N: Naming> Post<D, N> {
         free(&self.peers[peer].front)
     }
 
+    // A peer's front. It soon is free, so this looks a while before it waits.
+    pub(crate) fn front<R: Wait>(&self, rt: &R, peer: usize) -> MutexGuard<'_, FrontDesk<N>>
+        requires { peer < length self.now.names }
+    {
+        match self.free_front(peer) {
+            Some(desk) => desk,
+            None => self.peers[peer].front.lock(rt),
+        }
+    }
+
     // A peer's tape, if it is free, or soon is.
     pub(crate) fn free_tape(&self, peer: usize) -> Option<MutexGuard<'_, TapeDesk<D, N>>>
         requires { peer < length self.now.names }
@@ -245,39 +255,8 @@ impl<D: Disk, N: Naming> Post<D, N> {
         ensures unchanged { OnErr result
             ((mine.new.answered ≡ mine.old.answered) × (mine.new.dropped ≡ mine.old.dropped)) }
     {
-        let mut desk = self.peers[peer].front.lock(rt);
+        let mut desk = self.front(rt, peer);
         self.finish_at(rt, peer, &mut desk, connection, outcome, now, mine)
-    }
-
-    /// [`Post::finish`], but does not wait for the peer's front.
-    ///
-    /// # Errors
-    /// Those of `finish`; `Busy` if the front is in use: nothing has changed.
-    pub fn try_finish<R: Wait>(
-        &self,
-        rt: &R,
-        peer: usize,
-        connection: CxnId,
-        outcome: Outcome,
-        now: u64,
-        mine: &mut FeederShare<N>,
-    ) -> Result<Settled, (Outcome, PostFault)>
-        requires { peer < length self.now.names }
-        ensures counted { IfOk result
-            (λ settled. IsCounted outcome now settled mine.old mine.new) }
-        ensures returned { IfErr result (λ e. e.0 ≡ outcome) }
-        ensures kinds { IfErr result
-            (λ e. (e.1 ≡ PostFault.Busy peer) ⊎ (e.1 ≡ PostFault.CountFull)
-            ⊎ IsOfStation peer IsEndFault e.1) }
-        ensures unchanged { OnErr result
-            ((mine.new.answered ≡ mine.old.answered) × (mine.new.dropped ≡ mine.old.dropped)) }
-    {
-        match self.free_front(peer) {
-            Some(mut desk) => {
-                self.finish_at(rt, peer, &mut desk, connection, outcome, now, mine)
-            }
-            None => Err((outcome, PostFault::Busy { peer })),
-        }
     }
 
     // Takes a connection's outcome of a debt to its peer's front, counts what became of it, and sends what is unsent.

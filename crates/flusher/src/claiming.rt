@@ -16,8 +16,8 @@ use std::sync::Wait;
 
 impl<D: Disk, N: Naming> Post<D, N> {
     /// Claims the least candidate of a peer: its key under the front's lock, and its texts there, too, as long as the
-    /// front has them. Otherwise they are read from the tape, under the tape's lock alone; that may mean waiting for a
-    /// flush. A key whose texts can't be had is given back: it is ready.
+    /// front has them, or if they were read ahead. Otherwise they are read from the tape, under the tape's lock alone;
+    /// that may mean waiting for a flush. A key whose texts can't be had is given back: it is ready.
     ///
     /// # Errors
     /// The station's, in this order: `Broken`; `NoMemory`; `Tape(Disk)` if a read failed. `Stranger`, which no run
@@ -32,23 +32,22 @@ impl<D: Disk, N: Naming> Post<D, N> {
         requires { peer < length self.now.names }
         ensures kinds { IfErr result (IsOfPeer peer IsClaimFault) }
     {
-        let at = &self.peers[peer];
-        let claimed = claim_at(peer, &mut at.front.lock(rt), connection, now)?;
+        let claimed = claim_at(peer, &mut self.front(rt, peer), connection, now)?;
         match claimed {
             Claimed::Nothing => Ok(None),
-            Claimed::Debt(debt) => Ok(Some(debt)),
+            Claimed::Debt(debt) | Claimed::ReadBefore(debt) => Ok(Some(debt)),
             Claimed::OnTape(key) => {
-                let read = read_at(peer, &mut at.tape.lock(rt), key);
+                let read = read_at(peer, &mut self.peers[peer].tape.lock(rt), key);
                 self.handed(rt, peer, connection, key, read)
             }
         }
     }
 
-    /// [`Post::claim`], but waits for no tape.
+    /// [`Post::claim`], but waits for no tape. If the tape is free, it reads ahead the debts that come next, so that
+    /// claims go on while the tape is flushed.
     ///
     /// # Errors
-    /// Those of `claim`; `Busy` if the peer's front is in use, and nothing has changed, or if the tape is in use that
-    /// alone has the texts, and the key is given back.
+    /// Those of `claim`; `Busy` if the tape is in use that alone has the texts, and the key is given back.
     pub fn try_claim<R: Wait>(
         &self,
         rt: &R,
@@ -60,21 +59,42 @@ impl<D: Disk, N: Naming> Post<D, N> {
         ensures kinds { IfErr result
             (λ e. (e ≡ PostFault.Busy peer) ⊎ IsOfPeer peer IsClaimFault e) }
     {
-        let claimed = match self.free_front(peer) {
-            Some(mut front) => claim_at(peer, &mut front, connection, now)?,
-            None => return Err(PostFault::Busy { peer }),
-        };
+        let mut front = self.front(rt, peer);
+        let claimed = claim_at(peer, &mut front, connection, now)?;
+        let wants_more = front.wants_more();
+        drop(front);
         match claimed {
             Claimed::Nothing => Ok(None),
             Claimed::Debt(debt) => Ok(Some(debt)),
+            Claimed::ReadBefore(debt) => {
+                if wants_more && let Some(mut tape) = self.peers[peer].tape.try_lock() {
+                    self.read_ahead(rt, peer, &mut tape);
+                }
+                Ok(Some(debt))
+            }
             Claimed::OnTape(key) => {
                 let read = match self.free_tape(peer) {
-                    Some(mut tape) => read_at(peer, &mut tape, key),
+                    Some(mut tape) => {
+                        let read = read_at(peer, &mut tape, key);
+                        self.read_ahead(rt, peer, &mut tape);
+                        read
+                    }
                     None => Err(PostFault::Busy { peer }),
                 };
                 self.handed(rt, peer, connection, key, read)
             }
         }
+    }
+
+    // Reads ahead from a peer's tape the debts that its front can hand out next. What can't be read stays there.
+    fn read_ahead<R: Wait>(&self, rt: &R, peer: usize, tape: &mut TapeDesk<D, N>)
+        requires { peer < length self.now.names }
+    {
+        let Ok(keys) = self.front(rt, peer).keys_ahead(self.alloc) else {
+            return;
+        };
+        let debts = tape.debts(self.alloc, &keys);
+        self.front(rt, peer).keep_ahead(debts);
     }
 
     // Hands out the debt of a claimed key, or gives the key back if its texts were not read.

@@ -8,6 +8,7 @@ use crate::fault::TakeFault;
 use crate::naming::{
     AnsweredAtStations, DroppedAtStations, DroppedByFeeders, TakenAtStations, TakenByIntake,
 };
+use crate::read_ahead::ReadAhead;
 use crate::sealing::Settlement;
 use crate::share::FeederShare;
 use crate::tally::{Books, Tally};
@@ -19,8 +20,12 @@ use ledger_core::{Debt, Key, Totals};
 use note_queue::Sender;
 use peer_queue::{Owed, Settled, Shed, StationFault};
 use recovery::PENDING_MAX_NOTES;
+use std::alloc::{AllocError, Global};
 use std::marker::PhantomData;
 use std::sync::ledger::Share;
+
+// How many debts are read ahead in a row.
+const STEP_DEBTS: usize = 128;
 
 /// A front with the pass by which it sends.
 #[derive(Drop)]
@@ -43,6 +48,8 @@ pub struct FrontDesk<N: Naming> {
     pub(crate) acknowledged: Totals,
     // A flush or a rotation has failed since.
     pub(crate) has_failed: bool,
+    // Debts that were read from its tape before they were claimed.
+    pub(crate) ahead: ReadAhead,
     // Each share is exactly one part of its token ledger.
     ghost one_part: { (taken.parts ≡ 1) × (answered.parts ≡ 1) × (dropped.parts ≡ 1) },
     ghost counted: { (taken.amount ≡ (front_shape (front_of seat.sender)).taken)
@@ -58,6 +65,8 @@ pub(crate) enum Claimed {
     Nothing,
     /// The debt, whose texts the front has.
     Debt(Debt),
+    /// The debt, which was read from the tape before.
+    ReadBefore(Debt),
     /// The tape alone has the texts of this key.
     OnTape(Key),
 }
@@ -146,8 +155,8 @@ impl<N: Naming> FrontDesk<N> {
         Ok(settled)
     }
 
-    /// Claims the least candidate. Either the front has its texts, or the tape alone does. If the copy of the texts
-    /// finds no memory, the key is given back: it is ready.
+    /// Claims the least candidate. Either it was read from the tape before, or the front has its texts, or the tape
+    /// alone does. If the copy of the texts finds no memory, the key is given back: it is ready.
     pub fn claim(&mut self, connection: CxnId, now: u64) -> Result<Claimed, StationFault>
         ensures ok { IfOk result
             (Claims connection.0 now (front_of self.old.seat.sender)
@@ -158,18 +167,59 @@ impl<N: Naming> FrontDesk<N> {
         ensures keeps { KeepsNotes (front_of self.old.seat.sender) (front_of self.new.seat.sender) }
         ensures kinds { IfErr result IsClaimFault }
     {
-        let FrontDesk { seat, .. } = self;
+        let FrontDesk { seat, ahead, .. } = self;
         let Some(key) = seat.sender.claim_key(connection, now)? else {
             return Ok(Claimed::Nothing);
         };
+        if let Some(debt) = ahead.take(key) {
+            return Ok(Claimed::ReadBefore(debt));
+        }
         match seat.sender.front().unsettled(key) {
             Ok(Some(debt)) => Ok(Claimed::Debt(debt)),
-            Ok(None) => Ok(Claimed::OnTape(key)),
+            Ok(None) => {
+                ahead.begin_behind(key);
+                Ok(Claimed::OnTape(key))
+            }
             Err(_) => {
                 let _ = seat.sender.unclaim(connection, key);
                 Err(StationFault::NoMemory)
             }
         }
+    }
+
+    /// Whether more is to be read ahead.
+    pub fn wants_more(&self) -> bool {
+        self.ahead.end().is_some()
+    }
+
+    /// The keys of the debts to be read ahead next, at most 128: those that can be claimed next behind what was read.
+    pub fn keys_ahead(&mut self, alloc: Global) -> Result<Vec<Key>, AllocError>
+        ensures seat { self.new.seat ≡ self.old.seat }
+        ensures few { IfOk result (λ keys. length keys.items ≤ 128) }
+    {
+        let FrontDesk { seat, ahead, .. } = self;
+        let mut keys = Vec::new(alloc);
+        let Some(mut end) = ahead.end() else {
+            return Ok(keys);
+        };
+        for _ in 0..STEP_DEBTS {
+            let Some(key) = seat.sender.front().next_unheld(end) else {
+                ahead.stop();
+                return Ok(keys);
+            };
+            keys.push(key)?;
+            end = key;
+        }
+        ahead.go_on_behind(end);
+        Ok(keys)
+    }
+
+    /// Keeps debts that were read ahead.
+    pub fn keep_ahead(&mut self, debts: Vec<Debt>)
+        ensures seat { self.new.seat ≡ self.old.seat }
+    {
+        let FrontDesk { ahead, .. } = self;
+        ahead.keep(debts);
     }
 
     /// Gives back a key that this connection claimed, because its texts could not be had: it is ready. A broken front

@@ -16,6 +16,7 @@ mod naming;
 mod pace;
 mod peer;
 mod post;
+mod read_ahead;
 mod reported;
 mod room;
 mod rooms;

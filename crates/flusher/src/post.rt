@@ -16,6 +16,7 @@ use crate::naming::{
     DroppedByFeeders, TakenAtStations, TakenByIntake,
 };
 use crate::peer::{PostPeer, Sums, counted_at};
+use crate::read_ahead::ReadAhead;
 use crate::share::{FeederShare, IntakeShare};
 use crate::tally::{Tally, UncutLedger};
 use crate::tape_desk::TapeDesk;
@@ -61,7 +62,7 @@ pub(crate) struct Intake<D: Disk> {
 ///
 /// A tape is synced under its own lock, and no other lock is held meanwhile. Only the flusher waits for a tape's lock,
 /// and whoever claims a debt whose texts only the tape has. Locks are taken in this order: the intake's alone;
-/// a tape's alone; a front's, and under it the tally's.
+/// a tape's, and under it, for what is read ahead, its front's; a front's, and under it the tally's.
 #[derive(Drop)]
 pub struct Post<D: Disk, N: Naming> {
     pub(crate) alloc: Global,
@@ -99,6 +100,7 @@ impl<N: Naming> Openings<N> {
     // Splits the station of one more peer, at this place.
     fn desk<D: Disk + Drop>(
         &mut self,
+        alloc: Global,
         peer: PostPeer<D>,
         blank: BlankQueue,
         place: usize,
@@ -145,6 +147,7 @@ impl<N: Naming> Openings<N> {
             dropped: self.dropped.cut(opened.dropped),
             acknowledged,
             has_failed: false,
+            ahead: ReadAhead::new(alloc),
         };
         let tape = TapeDesk {
             place,
@@ -239,7 +242,7 @@ impl<D: Disk + Drop, N: Naming> Post<D, N> {
                 return Err(AllocError);
             };
             marks.push_reserved(peer.station.mark());
-            made.push_reserved(openings.desk(peer, blank, place)?);
+            made.push_reserved(openings.desk(alloc, peer, blank, place)?);
             place += 1;
         }
         let (first, second, third) = thirds(first_answered, first_dropped);

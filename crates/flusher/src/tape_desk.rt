@@ -8,6 +8,7 @@ use disk_model::Disk;
 use ledger_core::{Debt, Key, Totals};
 use note_queue::{NoteQueue, Side};
 use recovery::{Flushed, TapeFault};
+use std::alloc::Global;
 use std::marker::PhantomData;
 use std::sync::Wait;
 
@@ -151,5 +152,18 @@ impl<D: Disk, N: Naming> TapeDesk<D, N> {
     {
         let TapeDesk { side, .. } = self;
         side.debt(key)
+    }
+
+    /// The debts of these keys, in their order, as far as the tape owes them, they can be read and there is memory.
+    pub fn debts(&mut self, alloc: Global, keys: &[Key]) -> Vec<Debt>
+        ensures { IsSameEnd self.old.side self.new.side }
+    {
+        let mut debts = Vec::new(alloc);
+        for key in keys {
+            if let Ok(Some(debt)) = self.debt(*key) {
+                let _ = debts.push(debt);
+            }
+        }
+        debts
     }
 }

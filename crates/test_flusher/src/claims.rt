@@ -69,9 +69,10 @@ fn claim_at_last<D: Disk, N: Naming, R: Wait>(
     }
 }
 
-// What the claims give during the flush and after it.
+// What the claims give before the flush, during it and after it.
 #[derive(Clone, Copy, Debug, PartialEq, Eq)]
 struct FlushClaims {
+    before: u64,
     first: u64,
     second: u64,
     then: u64,
@@ -92,6 +93,7 @@ fn flushed<'a, D: Disk, N: Naming, R: Wait>(
     };
     let receipt = post.flush_all(rt, &pace)?.number();
     Ok(FlushClaims {
+        before: NO_DEBT,
         first: pace.first.load(Ordering::SeqCst),
         second: pace.second.load(Ordering::SeqCst),
         then: claimed(rt, post),
@@ -100,22 +102,31 @@ fn flushed<'a, D: Disk, N: Naming, R: Wait>(
     })
 }
 
+// Takes a line, or else claims a debt, and then flushes.
 fn run_steps<D: Disk + Drop, N: Naming, R: Wait>(
     rt: &R,
     alloc: Global,
     peers: Vec<PostPeer<D>>,
     intake: Tape<D>,
     blanks: Blanks,
+    line: Option<&[u8]>,
 ) -> Result<FlushClaims, Fail>
     requires names { N.names ≡ names_of blanks peers.items }
     requires blanks { IsFor (length peers.items) blanks }
     requires flushed { All (λ p. IsFlushed p.station) peers.items }
 {
     let (post, mut lines, first, second, third) = Post::<D, N>::new(alloc, peers, intake, blanks)?;
-    post.take_line(rt, b"a/1 <x@y> p", &mut lines)?;
+    let before = match line {
+        Some(line) => {
+            post.take_line(rt, line, &mut lines)?;
+            NO_DEBT
+        }
+        None => claimed(rt, &post),
+    };
     let claims = flushed(rt, &post)?;
     let sums = closed_sums(rt, post, lines, first, second, third)?;
     Ok(FlushClaims {
+        before,
         taken: sums.taken,
         ..claims
     })
@@ -126,12 +137,13 @@ fn on_disks<R: Wait>(
     alloc: Global,
     peer: PostPeer<MemDisk>,
     intake: Tape<MemDisk>,
+    line: Option<&[u8]>,
 ) -> Result<FlushClaims, Fail>
     requires { IsFlushed peer.station }
 {
     let peers = vec![in alloc; peer]?;
     let blanks = Blanks::new(alloc, 1)?;
-    run_steps::<MemDisk, Brand, R>(rt, alloc, peers, intake, blanks)
+    run_steps::<MemDisk, Brand, R>(rt, alloc, peers, intake, blanks, line)
 }
 
 // The line's debt is claimed during the flush, since its front has the texts. The texts of the imported one are only on
@@ -142,15 +154,40 @@ fn what_only_the_tape_has_is_refused_in_its_flush(rt: HostRuntime) -> Result<(),
     let claims = on_disks(
         &rt,
         alloc,
-        peer_with_backlog(alloc, b"p", 7)?,
+        peer_with_backlog(alloc, b"p", &[7])?,
         intake(alloc)?,
+        Some(b"a/1 <x@y> p"),
     )?;
     let want = FlushClaims {
+        before: NO_DEBT,
         first: 1,
         second: BUSY,
         then: 7,
         receipt: 1,
         taken: 1,
+    };
+    assert_eq!(rt; claims, want);
+    Ok(())
+}
+
+// A claim that reads a debt from the tape reads the next ones, too: they can be claimed during the flush.
+#[test]
+fn what_was_read_ahead_is_claimed_in_a_flush(rt: HostRuntime) -> Result<(), Fail> {
+    let alloc = rt.alloc();
+    let claims = on_disks(
+        &rt,
+        alloc,
+        peer_with_backlog(alloc, b"p", &[7, 8, 9])?,
+        intake(alloc)?,
+        None,
+    )?;
+    let want = FlushClaims {
+        before: 7,
+        first: 8,
+        second: 9,
+        then: NO_DEBT,
+        receipt: 0,
+        taken: 0,
     };
     assert_eq!(rt; claims, want);
     Ok(())

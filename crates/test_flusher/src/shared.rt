@@ -101,23 +101,23 @@ pub(crate) fn peer(alloc: Global, name: &[u8], limits: Limits) -> Result<PostPee
     )
 }
 
-// A peer that is owed one debt of this number, from a backlog file; the debt is on its tape.
+// A peer that is owed debts of these numbers, which rise, from a backlog file; the debts are on its tape.
 pub(crate) fn peer_with_backlog(
     alloc: Global,
     name: &[u8],
-    number: u64,
+    numbers: &[u64],
 ) -> Result<PostPeer<MemDisk>, Fail>
     ensures { IfOk result (λ p. IsFlushed p.station) }
 {
     backlog_on(
         alloc,
         name,
-        number,
+        numbers,
         (MemDisk::new(alloc), MemDisk::new(alloc)),
     )
 }
 
-// The same, but once the debt is on the tape, the first disk fails the call after this many.
+// A peer that is owed one such debt. Once it is on the tape, the first disk fails the call after this many.
 pub(crate) fn flaky_peer_with_backlog(
     alloc: Global,
     name: &[u8],
@@ -128,7 +128,7 @@ pub(crate) fn flaky_peer_with_backlog(
 {
     let before = OPENING_CALLS.saturating_add(BACKLOG_FLUSH_CALLS);
     let first = flaky(alloc, before.saturating_add(calls));
-    backlog_on(alloc, name, number, (first, flaky(alloc, u64::MAX)))
+    backlog_on(alloc, name, &[number], (first, flaky(alloc, u64::MAX)))
 }
 
 fn flaky(alloc: Global, calls: u64) -> FlakyDisk<MemDisk> {
@@ -138,14 +138,16 @@ fn flaky(alloc: Global, calls: u64) -> FlakyDisk<MemDisk> {
 fn backlog_on<D: Disk + Drop>(
     alloc: Global,
     name: &[u8],
-    number: u64,
+    numbers: &[u64],
     disks: (D, D),
 ) -> Result<PostPeer<D>, Fail>
     ensures { IfOk result (λ p. IsFlushed p.station) }
 {
     let mut made = peer_on(alloc, name, disks, UNLIMITED)?;
     let (token, id) = read_backlog_line(alloc, b"a/7 <w@v>")?;
-    made.import(number, &token, &id)?;
+    for number in numbers {
+        made.import(*number, &token, &id)?;
+    }
     made.flush_or_rotate()?;
     Ok(made)
 }
