@@ -29,7 +29,7 @@ pub struct Side<D: Disk> {
 }
 
 impl<D: Disk> Side<D> {
-    ghost use Rattle.std.specs.Prelude.{◌≢◌, IsSome};
+    ghost use Rattle.std.specs.Prelude.{◌≢◌, IsSome, map};
     ghost use Rattle.ledger_core.specs.Index.{debt_at};
     ghost use Rattle.ledger_core.specs.Ledger.{totals_of};
     ghost use Rattle.ledger_core.specs.State.{IsOwed};
@@ -37,7 +37,7 @@ impl<D: Disk> Side<D> {
     ghost use Rattle.recovery.specs.Notes.{History};
     ghost use Rattle.recovery.specs.Rotates.{RefusesRotation, Rotates};
     ghost use Rattle.recovery.specs.Tape.{IsRead, StandsFor};
-    ghost use Rattle.recovery.specs.Texts.{HasLengths};
+    ghost use Rattle.recovery.specs.Texts.{HasLengths, debts_at, lengths_of};
     ghost use Rattle.recovery.specs.Words.{Continues, IsDebtFault, OneHasRisen, faults_of};
     ghost use Rattle.note_queue.specs.Ends.{IsSameEnd, KeepsFor};
 
@@ -193,6 +193,27 @@ impl<D: Disk> Side<D> {
             self.old.tape self.new.tape }
     {
         self.tape.debt(key)
+    }
+
+    /// The debts of these keys, in their order, read back; a key that the tape does not owe is passed over.
+    ///
+    /// # Errors
+    /// The tape's ([`Tape::debts`]), in its order: `Broken`; `NoMemory`; `Disk`. None of them breaks the tape.
+    pub fn debts(&mut self, keys: &[Key]) -> Result<Vec<Debt>, TapeFault>
+        ensures debts { (h : History) → StandsFor self.old.tape h → IfOk result
+            (λ debts. debts.items ≡ debts_at (ledger_of self.old.tape) keys.now) }
+        ensures owed { IfOk result (λ debts. map lengths_of debts.items
+            ≡ map lengths_of (debts_at (ledger_of self.old.tape) keys.now)) }
+        ensures broken { IsErrOf result TapeFault.Broken ↔ IsBroken self.old.tape }
+        ensures kinds { IfErr result IsDebtFault }
+        ensures cause { (h : History) → StandsFor self.old.tape h → IsErrOf result TapeFault.Disk
+            → OneHasRisen (faults_of self.old.tape) (faults_of self.new.tape) }
+        ensures reads { IsRead self.old.tape self.new.tape }
+        ensures keeps { IsSameEnd self.old self.new }
+        ensures moments { LeavesFirst (view self.old.pass).got_on (view self.old.pass).got
+            self.old.tape self.new.tape }
+    {
+        self.tape.debts(keys)
     }
 
     /// What the tape counts, the notes that pend included. A broken tape answers too.

@@ -11,3 +11,4 @@ mod Rows
 pub mod Indexed
 pub mod Readings
 pub mod Generations
+pub mod Debts

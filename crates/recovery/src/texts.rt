@@ -64,7 +64,7 @@ fn debt_as(key: Key, spot: Spot, debt: Debt) -> Result<Debt, TapeFault>
 
 impl<D: Disk> Tape<D> {
     ghost use Rattle.std.specs.Prelude.{[], ◌==◌, ◌∷◌, ◌++◌, take, drop, find, option_map};
-    ghost use Rattle.std.specs.Prelude.{OnErr, OnOk, IfNone, IsSome};
+    ghost use Rattle.std.specs.Prelude.{OnErr, OnOk, IfNone, IsSome, map};
     ghost use Rattle.ledger_core.specs.Base.{base_spelling};
     ghost use Rattle.ledger_core.specs.Index.{IsSpotOf, debt_at, spots_of};
     ghost use Rattle.tape_journal.specs.Journal.{Holds};
@@ -78,12 +78,12 @@ impl<D: Disk> Tape<D> {
     ghost use Rattle.tape_journal.specs.Gathered.{octets_in};
     ghost use Rattle.recovery.specs.Notes.{History};
     ghost use Rattle.recovery.specs.Tape.{IsRead, StandsFor};
-    ghost use Rattle.recovery.specs.Texts.{HasLengths, IsAt};
+    ghost use Rattle.recovery.specs.Texts.{HasLengths, IsAt, debts_at, lengths_of};
     ghost use Rattle.recovery.specs.Words.{IsBroken, IsDebtFault, OneHasRisen, Writes, generation_of, ledger_of};
     ghost use Rattle.recovery.specs.Words.{live_segment, faults_of};
 
     /// The debt of this key, if it is owed. Its note is read back from the disk, unless it is pending. Logarithmic in
-    /// what is owed, and one read of the disk.
+    /// what is owed, and at most two reads of the disk.
     ///
     /// # Errors
     /// Tried in this order: `Broken`; `NoMemory`; `Disk`, if the read failed, or gave another note than was written
@@ -119,6 +119,60 @@ impl<D: Disk> Tape<D> {
             Ok(debt) => Ok(Some(debt)),
             Err(fault) => Err(fault),
         }
+    }
+
+    /// The debts of these keys, in their order, read back; a key that is not owed is passed over. The live segment is
+    /// read in pieces, so that notes which follow each other there, as those of rising keys mostly do, cost few reads of
+    /// the disk.
+    ///
+    /// # Errors
+    /// Tried in this order: `Broken`; `NoMemory` if there is none for a piece; those of [`Tape::debt`], of the first
+    /// key that meets one. None of them changes anything, or breaks the tape.
+    pub fn debts(&mut self, keys: &[Key]) -> Result<Vec<Debt>, TapeFault>
+        // They are the debts that were noted.
+        ensures debts { (h : History) → StandsFor self.old h → IfOk result
+            (λ debts. debts.items ≡ debts_at (ledger_of self.old) keys.now) }
+        // Whatever the disk gives, their keys are those that are owed, and the texts have the lengths that were noted.
+        ensures owed { IfOk result (λ debts. map lengths_of debts.items
+            ≡ map lengths_of (debts_at (ledger_of self.old) keys.now)) }
+        ensures broken { IsErrOf result TapeFault.Broken ↔ IsBroken self.old }
+        ensures cause { (h : History) → StandsFor self.old h
+            → IsErrOf result TapeFault.Disk → OneHasRisen (faults_of self.old)
+            (faults_of self.new) }
+        ensures kinds { IfErr result IsDebtFault }
+        ensures reads { IsRead self.old self.new }
+        ensures quiet { OnOk result (faults_of self.new ≡ faults_of self.old) }
+    {
+        if self.segments.live.is_broken() {
+            return Err(TapeFault::Broken);
+        }
+        self.read_ahead()?;
+        let debts = self.debts_each(keys);
+        self.read_singly();
+        debts
+    }
+
+    // The debts of these keys, one by one.
+    fn debts_each(&mut self, keys: &[Key]) -> Result<Vec<Debt>, TapeFault>
+        requires works { IsBroken self.old → ⊥ }
+        ensures debts { (h : History) → StandsFor self.old h → IfOk result
+            (λ debts. debts.items ≡ debts_at (ledger_of self.old) keys.now) }
+        ensures owed { IfOk result (λ debts. map lengths_of debts.items
+            ≡ map lengths_of (debts_at (ledger_of self.old) keys.now)) }
+        ensures cause { (h : History) → StandsFor self.old h
+            → IsErrOf result TapeFault.Disk → OneHasRisen (faults_of self.old)
+            (faults_of self.new) }
+        ensures kinds { IfErr result IsReadFault }
+        ensures reads { IsRead self.old self.new }
+        ensures quiet { OnOk result (faults_of self.new ≡ faults_of self.old) }
+    {
+        let mut debts = Vec::new(self.alloc);
+        for key in keys {
+            if let Some(debt) = self.debt(*key)? {
+                debts.push(debt)?;
+            }
+        }
+        Ok(debts)
     }
 
     // The payload of the note that owes the debt of this key, at this spot.

@@ -33,6 +33,8 @@ pub(crate) enum TapeStep {
     Debt(u64, Result<Option<u64>, TapeFault>),
     // The same for a line of a backlog file.
     DebtFrom(SourceLine, Result<Option<SourceLine>, TapeFault>),
+    // The debts of these numbers that are returned have these numbers.
+    Debts(&'static [u64], Result<&'static [u64], TapeFault>),
     Octets(u64, Option<u64>),
     Owes(u64, bool),
     IsBroken(bool),
@@ -154,6 +156,34 @@ fn told<D: Disk>(tape: &mut Tape<D>, number: u64) -> Result<Result<Option<u64>, 
     }
 }
 
+// The numbers of debts, all of which must be of lines of the funnel.
+fn numbers_of(alloc: Global, debts: &[Debt]) -> Result<Vec<u64>, Fail> {
+    let mut numbers = Vec::with_capacity(alloc, debts.len())?;
+    for debt in debts {
+        match line_of(debt)? {
+            (0, number) => numbers.push(number)?,
+            _ => return Err(Fail::from("a debt of another source is told")),
+        }
+    }
+    Ok(numbers)
+}
+
+fn assert_debts<A: Abort, D: Disk>(
+    rt: &A,
+    alloc: Global,
+    at: usize,
+    tape: &mut Tape<D>,
+    numbers: &[u64],
+    want: Result<&[u64], TapeFault>,
+) -> Result<(), Fail> {
+    match tape.debts(&lines(alloc, numbers)?) {
+        Ok(debts) => assert_answer(rt, at, &Ok(numbers_of(alloc, &debts)?.as_slice()), &want),
+        Err(TapeFault::NoMemory) => return Err(Fail::from(TapeFault::NoMemory)),
+        Err(fault) => assert_answer(rt, at, &Err(fault), &want),
+    }
+    Ok(())
+}
+
 fn assert_owed<A: Abort, D: Disk>(
     rt: &A,
     at: usize,
@@ -191,6 +221,7 @@ fn take<A: Abort, D: Disk>(
             let key = Key::new(source, number);
             assert_answer(rt, at, &debt_of(tape, key)?, &want)
         }
+        TapeStep::Debts(numbers, want) => assert_debts(rt, alloc, at, tape, numbers, want)?,
         TapeStep::Octets(number, want) => assert_answer(rt, at, &tape.octets(line(number)), &want),
         TapeStep::Owes(number, want) => assert_answer(rt, at, &tape.owes(line(number)), &want),
         TapeStep::IsBroken(want) => assert_answer(rt, at, &tape.is_broken(), &want),

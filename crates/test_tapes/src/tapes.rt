@@ -113,6 +113,33 @@ const SCRIPTS: &[(&[u8], &[ReopenedTape])] = &[
             None,
         )],
     ),
+    // Debts are read in the order of the numbers, whether their notes are pending or not; what is not owed is passed
+    // over.
+    (
+        &[],
+        &[
+            (
+                &[
+                    TapeStep::OweEach(1, 7),
+                    TapeStep::EndEach(2, 4),
+                    TapeStep::Debts(&[6, 3, 1, 7, 4], Ok(&[6, 1, 4])),
+                    TapeStep::Flush(Ok(8)),
+                    TapeStep::OweEach(7, 8),
+                    TapeStep::EndEach(4, 5),
+                    TapeStep::Debts(&[6, 3, 1, 7, 4], Ok(&[6, 1, 7])),
+                    TapeStep::Debts(&[5, 8, 5], Ok(&[5, 5])),
+                    TapeStep::Debts(&[2, 3], Ok(&[])),
+                    TapeStep::Debts(&[], Ok(&[])),
+                    TapeStep::Flush(Ok(10)),
+                ],
+                None,
+            ),
+            (
+                &[TapeStep::Debts(&[7, 4, 6, 5, 1], Ok(&[7, 6, 5, 1]))],
+                None,
+            ),
+        ],
+    ),
     // A refused note is handed back.
     (
         &[],
@@ -426,6 +453,8 @@ fn a_failed_sync_breaks_the_tape(rt: HostRuntime) -> Result<(), Fail> {
                 TapeStep::Note(Sample::Final(1), Err(TapeFault::Broken)),
                 TapeStep::Flush(Err(TapeFault::Broken)),
                 TapeStep::Debt(1, Err(TapeFault::Broken)),
+                TapeStep::Debts(&[2, 1], Err(TapeFault::Broken)),
+                TapeStep::Debts(&[], Err(TapeFault::Broken)),
             ],
             &[TapeStep::Numbers(&[1, 2, 3])],
         ),
@@ -471,6 +500,47 @@ pub(crate) fn flaky(
     (first, second): CallsLeft,
 ) -> (FlakyDisk<MemDisk>, FlakyDisk<MemDisk>) {
     (FlakyDisk::new(a, first), FlakyDisk::new(b, second))
+}
+
+// Opening makes eight calls of a first disk with records. Debts whose records stand together are read by one more, from
+// the first record on, and by another where the order goes back to an earlier one. A debt read singly takes two.
+#[test]
+fn debts_that_stand_together_are_read_by_one_call(rt: HostRuntime) -> Result<(), Fail> {
+    const OWED_EACH: &[TapeStep] = &[
+        TapeStep::OweEach(1, 9),
+        TapeStep::Flush(Ok(8)),
+        TapeStep::OweEach(9, 65),
+        TapeStep::Flush(Ok(64)),
+    ];
+    const BOTH_RECORDS: &[u64] = &[2, 1, 5, 8, 9, 64, 63, 50, 33, 17];
+    // How many calls of the first disk pass, and the steps.
+    const ROWS: &[(u64, &[TapeStep])] = &[
+        (
+            8,
+            &[
+                TapeStep::Debts(&[3, 1, 64], Err(TapeFault::Disk)),
+                TapeStep::IsBroken(false),
+                TapeStep::Debts(&[65], Ok(&[])),
+            ],
+        ),
+        (9, &[TapeStep::Debts(BOTH_RECORDS, Ok(BOTH_RECORDS))]),
+        (9, &[TapeStep::Debts(&[64, 1], Err(TapeFault::Disk))]),
+        (10, &[TapeStep::Debts(&[64, 1], Ok(&[64, 1]))]),
+        (9, &[TapeStep::Debt(2, Err(TapeFault::Disk))]),
+        (
+            10,
+            &[
+                TapeStep::Debt(2, Ok(Some(2))),
+                TapeStep::Debt(1, Err(TapeFault::Disk)),
+            ],
+        ),
+    ];
+    for (calls, steps) in ROWS {
+        let disks = disks_of(rt.alloc(), (&[], &[]))?;
+        let disks = run(&rt, rt.alloc(), disks, OWED_EACH)?;
+        run(&rt, rt.alloc(), fused(disks, (*calls, u64::MAX)), steps)?;
+    }
+    Ok(())
 }
 
 // Opens the tape of disks that fail after this many calls, and takes these steps if it opens. No faults but those of

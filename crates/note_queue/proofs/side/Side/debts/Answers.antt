@@ -1,0 +1,25 @@
+use Rattle.std.proofs.Common.{◌∙◌}
+use Rattle.crossbeam_queue.specs.Passes.{view}
+use Rattle.recovery.specs.DiskLaws.{ledger-read}
+use Rattle.note_queue.specs.Owns.{put_on}
+use Rattle.note_queue.proofs.Owning.{looked, owner_stays}
+use Rattle.note_queue.proofs.side.Side.debts.Goals as goal
+
+pub invariant_of-self : goal.invariant_of-self
+invariant_of-self g c =
+    let old = c.args.self.now in
+    let v = view old.pass in
+    let reads = c.debts.ensures.reads in
+    record {
+      role = old.role;
+      last = old.last;
+      ledger = ledger-read old.tape c.debts.new.self reads ∙ old.ledger;
+      owner = owner_stays old.tape c.debts.new.self v.got_on (put_on v.got old.kept) reads.continues.honest.1
+          reads.stands old.owner;
+    }
+
+pub returns-clause-moments : goal.returns-clause-moments
+returns-clause-moments g c =
+    let old = c.args.self.now in
+    let v = view old.pass in
+    looked old.tape c.debts.new.self v.got_on v.got old.kept c.debts.ensures.reads old.last old.owner
