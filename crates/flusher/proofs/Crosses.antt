@@ -17,6 +17,7 @@ use Rattle.ledger_core.specs.contracts.ledger.Ledger as Ledger
 use Rattle.ledger_core.specs.contracts.outline.Outline as Outline
 use Rattle.recovery.proofs.tape_segments.TapeSegments.TheSendSync as segments
 use Rattle.recovery.specs.contracts.tape.Tape as Tape
+use Rattle.flusher.proofs.tally.Books.TheSendSync as books
 use Rattle.flusher.proofs.tally.Tally.TheSendSync as tally
 use Rattle.flusher.specs.contracts.post.Intake as Intake
 use Rattle.disk_model.specs.declared.Disk as disk
@@ -86,5 +87,5 @@ module _ (D N : RattleType) (g : disk.Ghosts D.Denot) (n : naming.Ghosts N.Denot
 
   pub Post-sync : IsSend D → IsSend N → IsSync N → IsSync (Post.the_field D N g n).row
   Post-sync s t y =
-      let a = PeerDesk-sync s t y in let b = Intake-send D g s in search (tally.the_field_send, sendable, crosses)
-      depth 20
+      let a = PeerDesk-sync s t y in let b = Intake-send D g s in
+      search (tally.the_field_send, books.the_send, sendable, crosses) depth 20

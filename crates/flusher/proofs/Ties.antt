@@ -7,7 +7,8 @@ use Rattle.atomic_table.specs.Seated.{TableId}
 use Rattle.flusher.specs.Names.{IsTableAt}
 
 -- at its place, once that is the peer's
-pub tied_at : {A : Type 0} (f : A → TableId) (xs : List A) (tables : List TableId) (place peer : ℕ) (x : A) (t : TableId)
+pub tied_at : {A : Type 0} (f : A → TableId) (xs : List A) (tables : List TableId) (place peer : ℕ) (x : A)
+    (t : TableId)
     → map f xs ≡ tables → IsTableAt tables place t → place ≡ peer → peer < length xs → x ≡ get_or xs peer x → t ≡ f x
 tied_at f xs tables place peer x t all tied same within at =
     same_Some t (f x)

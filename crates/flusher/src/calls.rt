@@ -112,6 +112,14 @@ impl<D: Disk, N: Naming> Post<D, N> {
         }
     }
 
+    // The tally of what has ended. It, too, soon is free.
+    fn ended<R: Wait>(&self, rt: &R) -> MutexGuard<'_, Tally<N>> {
+        match free(&self.ended) {
+            Some(tally) => tally,
+            None => self.ended.lock(rt),
+        }
+    }
+
     // A peer's tape, if it is free, or soon is.
     pub(crate) fn free_tape(&self, peer: usize) -> Option<MutexGuard<'_, TapeDesk<D, N>>>
         requires { peer < length self.now.names }
@@ -227,7 +235,7 @@ impl<D: Disk, N: Naming> Post<D, N> {
             ((mine.new.answered ≡ mine.old.answered) × (mine.new.dropped ≡ mine.old.dropped)) }
     {
         let mut desk = self.peers[peer].front.lock(rt);
-        let shed = shed_in(peer, &mut desk, &mut self.tally.lock(rt), mine);
+        let shed = shed_in(peer, &mut desk, &mut self.ended.lock(rt), mine);
         let _ = self.send(rt, peer, &mut desk);
         shed
     }
@@ -305,7 +313,7 @@ impl<D: Disk, N: Naming> Post<D, N> {
         ensures unchanged { OnErr result
             ((mine.new.answered ≡ mine.old.answered) × (mine.new.dropped ≡ mine.old.dropped)) }
     {
-        let mut tally = self.tally.lock(rt);
+        let mut tally = self.ended(rt);
         finish_in(peer, desk, &mut tally, connection, outcome, now, mine)
     }
 

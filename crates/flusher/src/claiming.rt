@@ -76,7 +76,9 @@ impl<D: Disk, N: Naming> Post<D, N> {
                 let read = match self.free_tape(peer) {
                     Some(mut tape) => {
                         let read = read_at(peer, &mut tape, key);
-                        self.read_ahead(rt, peer, &mut tape);
+                        if read.is_ok() {
+                            self.read_ahead(rt, peer, &mut tape);
+                        }
                         read
                     }
                     None => Err(PostFault::Busy { peer }),
@@ -90,11 +92,15 @@ impl<D: Disk, N: Naming> Post<D, N> {
     fn read_ahead<R: Wait>(&self, rt: &R, peer: usize, tape: &mut TapeDesk<D, N>)
         requires { peer < length self.now.names }
     {
-        let Ok(keys) = self.front(rt, peer).keys_ahead(self.alloc) else {
+        let Ok(keys) = self.front(rt, peer).keys_ahead() else {
             return;
         };
-        let debts = tape.debts(self.alloc, &keys);
-        self.front(rt, peer).keep_ahead(debts);
+        if keys.is_empty() {
+            return;
+        }
+        if let Ok(debts) = tape.debts(&keys) {
+            let _ = self.front(rt, peer).keep_ahead(debts);
+        }
     }
 
     // Hands out the debt of a claimed key, or gives the key back if its texts were not read.
@@ -146,6 +152,7 @@ fn read_at<D: Disk, N: Naming>(
     desk: &mut TapeDesk<D, N>,
     key: Key,
 ) -> Result<Debt, PostFault>
+    ensures key { IfOk result (λ debt. debt.0 ≡ key) }
     ensures kinds { IfErr result (IsOfPeer peer IsClaimFault) }
 {
     match desk.debt(key) {

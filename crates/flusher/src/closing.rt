@@ -189,14 +189,12 @@ impl<D: Disk + Drop, N: Naming> Post<D, N> {
         let Post {
             peers,
             intake: behind,
-            tally,
+            taken,
+            ended,
             ..
         } = self;
-        let Tally {
-            taken,
-            answered,
-            dropped,
-        } = tally.into_inner();
+        let taken = taken.into_inner();
+        let Tally { answered, dropped } = ended.into_inner();
         let (taken, mut takers, mut taken_at, rest_taken) = taken.parts();
         let (answered, mut answerers, mut answered_at, rest_answered) = answered.parts();
         let (dropped, mut droppers, mut dropped_at, rest_dropped) = dropped.parts();

@@ -20,12 +20,9 @@ use ledger_core::{Debt, Key, Totals};
 use note_queue::Sender;
 use peer_queue::{Owed, Settled, Shed, StationFault};
 use recovery::PENDING_MAX_NOTES;
-use std::alloc::{AllocError, Global};
+use std::alloc::AllocError;
 use std::marker::PhantomData;
 use std::sync::ledger::Share;
-
-// How many debts are read ahead in a row.
-const STEP_DEBTS: usize = 128;
 
 /// A front with the pass by which it sends.
 #[derive(Drop)]
@@ -75,18 +72,20 @@ impl<N: Naming> FrontDesk<N> {
     ghost use Rattle.std.specs.Prelude.{◌≢◌, ◌-◌, ◌<◌, ◌≤◌, ◌^◌, ◌↔◌};
     ghost use Rattle.std.specs.Prelude.{true, false, if◌then◌else◌, max, min};
     ghost use Rattle.std.specs.Prelude.{IfErr, IfOk, IfSome, IsErrOf, IsNone, IsSome, IsTrue, OnErr, OnOk};
-    ghost use Rattle.std.specs.Prelude.{length, nat_lt};
+    ghost use Rattle.std.specs.Prelude.{filter, length, nat_lt, take};
     ghost use Rattle.std.specs.List.{All};
+    ghost use Rattle.flusher.specs.Ahead.{gone_on, kept_with, wanted_behind};
     ghost use Rattle.flusher.specs.Claims.{Claims, GivesBack, Unclaims};
     ghost use Rattle.flusher.specs.Counted.{IsCounted};
     ghost use Rattle.flusher.specs.Faults.{IsPutOffFault, IsShedFault, IsTakeFault};
+    ghost use Rattle.flusher.specs.ReadAhead.{LetsGo, Uses, end_in, kept_in};
     ghost use Rattle.flusher.specs.Sealed.{HasSettled};
     ghost use Rattle.ledger_core.specs.Shape.{shape_totals};
     ghost use Rattle.peer_queue.specs.Faults.{IsClaimFault, IsEndFault};
     ghost use Rattle.peer_queue.specs.Front.{IsSame, KeepsNotes, pending_of, places_of, sent_of, settled_of};
     ghost use Rattle.peer_queue.specs.FrontCalls.{Finishes, IsAnswered, OnlyOutbox};
     ghost use Rattle.peer_queue.specs.Outbox.{Breaks, Learns};
-    ghost use Rattle.peer_queue.specs.DebtPlace.{IsLater, held_count, moved, place_until, released};
+    ghost use Rattle.peer_queue.specs.DebtPlace.{IsLater, held_count, moved, place_until, released, unheld};
 
     /// Takes a valid line, if its number is above the mark, and counts it.
     pub fn take(
@@ -166,6 +165,8 @@ impl<N: Naming> FrontDesk<N> {
             (front_of self.new.seat.sender)) }
         ensures keeps { KeepsNotes (front_of self.old.seat.sender) (front_of self.new.seat.sender) }
         ensures kinds { IfErr result IsClaimFault }
+        ensures uses { IfOk result (Uses self.old.ahead self.new.ahead) }
+        ensures lets_go { OnErr result (LetsGo self.old.ahead self.new.ahead) }
     {
         let FrontDesk { seat, ahead, .. } = self;
         let Some(key) = seat.sender.claim_key(connection, now)? else {
@@ -188,38 +189,42 @@ impl<N: Naming> FrontDesk<N> {
     }
 
     /// Whether more is to be read ahead.
-    pub fn wants_more(&self) -> bool {
-        self.ahead.end().is_some()
+    pub fn wants_more(&self) -> bool
+        ensures { IsTrue result ↔ 0 < wanted_behind (kept_in self.now.ahead) }
+    {
+        self.ahead.wanted() > 0
     }
 
-    /// The keys of the debts to be read ahead next, at most 128: those that can be claimed next behind what was read.
-    pub fn keys_ahead(&mut self, alloc: Global) -> Result<Vec<Key>, AllocError>
+    /// The keys of the debts that are read ahead next: those that can be claimed next behind what was read, 128 of them
+    /// at most, as long as there is room for so many.
+    pub fn keys_ahead(&mut self) -> Result<Vec<Key>, AllocError>
+        ensures keys { IfOk result (λ keys. keys.items
+            ≡ take (wanted_behind (kept_in self.old.ahead))
+            (filter (λ key. nat_lt (end_in self.old.ahead) key)
+            (unheld (places_of (front_of self.old.seat.sender))))) }
+        ensures end { IfOk result
+            (λ keys. end_in self.new.ahead ≡ gone_on (end_in self.old.ahead) keys.items) }
+        ensures kept { kept_in self.new.ahead ≡ kept_in self.old.ahead }
+        ensures refused { OnErr result (self.new.ahead ≡ self.old.ahead) }
         ensures seat { self.new.seat ≡ self.old.seat }
-        ensures few { IfOk result (λ keys. length keys.items ≤ 128) }
     {
         let FrontDesk { seat, ahead, .. } = self;
-        let mut keys = Vec::new(alloc);
-        let Some(mut end) = ahead.end() else {
-            return Ok(keys);
-        };
-        for _ in 0..STEP_DEBTS {
-            let Some(key) = seat.sender.front().next_unheld(end) else {
-                ahead.stop();
-                return Ok(keys);
-            };
-            keys.push(key)?;
-            end = key;
-        }
-        ahead.go_on_behind(end);
+        let front = seat.sender.front();
+        let keys = front.unheld_after(ahead.end(), ahead.wanted())?;
+        ahead.go_on_behind(&keys);
         Ok(keys)
     }
 
-    /// Keeps debts that were read ahead.
-    pub fn keep_ahead(&mut self, debts: Vec<Debt>)
+    /// Keeps debts that were read ahead, as far as there is room for them.
+    pub fn keep_ahead(&mut self, debts: Vec<Debt>) -> Result<(), AllocError>
+        ensures ok { OnOk result
+            (kept_in self.new.ahead ≡ kept_with (kept_in self.old.ahead) debts.items) }
+        ensures unchanged { OnErr result (kept_in self.new.ahead ≡ kept_in self.old.ahead) }
+        ensures end { end_in self.new.ahead ≡ end_in self.old.ahead }
         ensures seat { self.new.seat ≡ self.old.seat }
     {
         let FrontDesk { ahead, .. } = self;
-        ahead.keep(debts);
+        ahead.keep(debts)
     }
 
     /// Gives back a key that this connection claimed, because its texts could not be had: it is ready. A broken front

@@ -18,7 +18,7 @@ use crate::naming::{
 use crate::peer::{PostPeer, Sums, counted_at};
 use crate::read_ahead::ReadAhead;
 use crate::share::{FeederShare, IntakeShare};
-use crate::tally::{Tally, UncutLedger};
+use crate::tally::{Books, Tally, UncutLedger};
 use crate::tape_desk::TapeDesk;
 use crate::{Blanks, Naming};
 use disk_model::Disk;
@@ -57,12 +57,12 @@ pub(crate) struct Intake<D: Disk> {
     pub(crate) tape: Tape<D>,
 }
 
-/// The stations of all peers, each split into a front and a tape with locks of their own; the intake tape; and the
-/// tally. Each of these two has a lock, too.
+/// The stations of all peers, each split into a front and a tape with locks of their own; the intake tape; and two
+/// tallies, of what was taken and of what has ended. Each of these three has a lock, too.
 ///
 /// A tape is synced under its own lock, and no other lock is held meanwhile. Only the flusher waits for a tape's lock,
 /// and whoever claims a debt whose texts only the tape has. Locks are taken in this order: the intake's alone;
-/// a tape's, and under it, for what is read ahead, its front's; a front's, and under it the tally's.
+/// a tape's, and under it, for what is read ahead, its front's; a front's, and under it a tally's.
 #[derive(Drop)]
 pub struct Post<D: Disk, N: Naming> {
     pub(crate) alloc: Global,
@@ -71,7 +71,10 @@ pub struct Post<D: Disk, N: Naming> {
     // The number of the last line taken by every station it names, as in the intake's share. The intake alone writes
     // it; the flusher reads it before it flushes the stations.
     pub(crate) last: AtomicU64,
-    pub(crate) tally: Mutex<Tally<N>>,
+    // The tally of what was taken. The intake alone counts there, and waits for no feeder to do so.
+    pub(crate) taken: Mutex<Books<TakenByIntake<N>, TakenAtStations<N>>>,
+    // The tally of what has ended.
+    pub(crate) ended: Mutex<Tally<N>>,
 }
 
 impl<D: Disk, N: Naming> Model for Post<D, N> {
@@ -251,8 +254,7 @@ impl<D: Disk + Drop, N: Naming> Post<D, N> {
             answered: answered_at,
             dropped: dropped_at,
         } = openings;
-        let tally = Tally {
-            taken: taken_at.close(taken),
+        let ended = Tally {
             answered: answered_at.close(answered),
             dropped: dropped_at.close(dropped),
         };
@@ -261,7 +263,8 @@ impl<D: Disk + Drop, N: Naming> Post<D, N> {
             peers: made,
             intake: Mutex::new(Intake { tape: intake }),
             last: AtomicU64::new(last),
-            tally: Mutex::new(tally),
+            taken: Mutex::new(taken_at.close(taken)),
+            ended: Mutex::new(ended),
         };
         Ok((
             post,

@@ -10,9 +10,9 @@ ghost use Rattle.peer_queue.specs.Front.{front_shape};
 
 use crate::fault::TakeFault;
 use crate::front_desk::FrontDesk;
-use crate::naming::TakenByIntake;
+use crate::naming::{TakenAtStations, TakenByIntake};
 use crate::share::IntakeShare;
-use crate::tally::Tally;
+use crate::tally::Books;
 use crate::{Naming, Post, PostFault};
 use disk_model::Disk;
 use funnel::{FunnelLine, LineFault, read_line};
@@ -167,7 +167,7 @@ impl<D: Disk, N: Naming> Post<D, N> {
         ensures kinds { IfErr result (IsLineFault (λ at. at ≡ peer)) }
         ensures part { taken.new.parts ≡ 1 }
     {
-        let mut desk = self.peers[peer].front.lock(rt);
+        let mut desk = self.front(rt, peer);
         let before = desk.pending();
         let took = self.take_counted(rt, peer, &mut desk, number, line, taken, mark);
         self.note_half_full(peer, before, desk.pending());
@@ -175,7 +175,7 @@ impl<D: Disk, N: Naming> Post<D, N> {
         took
     }
 
-    // Takes a valid line at a front, and counts it in the tally.
+    // Takes a valid line at a front, and counts it among what was taken.
     fn take_counted<R: Wait>(
         &self,
         rt: &R,
@@ -195,16 +195,16 @@ impl<D: Disk, N: Naming> Post<D, N> {
         ensures kinds { IfErr result (IsLineFault (λ at. at ≡ peer)) }
         ensures part { taken.new.parts ≡ 1 }
     {
-        let mut tally = self.tally.lock(rt);
-        take_in(peer, desk, &mut tally, number, line, taken, mark)
+        let mut books = self.taken.lock(rt);
+        take_in(peer, desk, &mut books, number, line, taken, mark)
     }
 }
 
-// Takes a valid line at a front, if its number is above the mark, and counts it in this tally.
+// Takes a valid line at a front, if its number is above the mark, and counts it in these books.
 fn take_in<N: Naming>(
     peer: usize,
     desk: &mut FrontDesk<N>,
-    tally: &mut Tally<N>,
+    books: &mut Books<TakenByIntake<N>, TakenAtStations<N>>,
     number: u64,
     line: &FunnelLine,
     taken: &mut Share<TakenByIntake<N>>,
@@ -216,17 +216,17 @@ fn take_in<N: Naming>(
         (taken.new.amount ≡ taken.old.amount + (if nat_lt mark.old number then 1 else 0)) }
     ensures unchanged { OnErr result
         ((mark.new ≡ mark.old) × (taken.new.amount ≡ taken.old.amount)) }
-    ensures count_full { IsErrOf result PostFault.CountFull ↔ IsCountFull tally.old.taken }
+    ensures count_full { IsErrOf result PostFault.CountFull ↔ IsCountFull books.old }
     ensures stranger { IsErrOf result (PostFault.Stranger peer)
-        ↔ ((IsCountFull tally.old.taken → ⊥)
+        ↔ ((IsCountFull books.old → ⊥)
         × ((front_shape (front_of desk.old.seat.sender)).mark ≢ mark.old)) }
     ensures kinds { IfErr result (IsLineFault (λ at. at ≡ peer)) }
     ensures part { taken.new.parts ≡ 1 }
 {
-    if tally.taken.is_full() {
+    if books.is_full() {
         return Err(PostFault::CountFull);
     }
-    match desk.take(&mut tally.taken, taken, mark, number, line) {
+    match desk.take(books, taken, mark, number, line) {
         Ok(()) => Ok(()),
         Err(TakeFault::Stranger) => Err(PostFault::Stranger { peer }),
         Err(TakeFault::Station(fault)) => Err(PostFault::Station { peer, fault }),

@@ -7,7 +7,6 @@ ghost use Rattle.flusher.specs.Room.{IsCountFull};
 use crate::Naming;
 use crate::naming::{
     AnsweredAtStations, AnsweredByFeeders, AtStations, DroppedAtStations, DroppedByFeeders,
-    TakenAtStations, TakenByIntake,
 };
 use crate::share::FeederShare;
 use peer_queue::Settled;
@@ -67,10 +66,9 @@ impl<W: Ledger, S: AtStations> Books<W, S> {
     }
 }
 
-/// The books of the three counts.
+/// The books of what has ended.
 #[derive(Drop)]
 pub struct Tally<N: Naming> {
-    pub taken: Books<TakenByIntake<N>, TakenAtStations<N>>,
     pub answered: Books<AnsweredByFeeders<N>, AnsweredAtStations<N>>,
     pub dropped: Books<DroppedByFeeders<N>, DroppedAtStations<N>>,
 }

@@ -8,7 +8,6 @@ use disk_model::Disk;
 use ledger_core::{Debt, Key, Totals};
 use note_queue::{NoteQueue, Side};
 use recovery::{Flushed, TapeFault};
-use std::alloc::Global;
 use std::marker::PhantomData;
 use std::sync::Wait;
 
@@ -49,14 +48,18 @@ impl Flush {
 
 impl<D: Disk, N: Naming> TapeDesk<D, N> {
     ghost use Rattle.std.specs.Prelude.{◌-◌, ◌^◌, ◌↔◌, ◌⊎◌, None};
-    ghost use Rattle.std.specs.Prelude.{IfErr, IfOk, IsErrOf, IsSome, IsTrue, OnOk};
+    ghost use Rattle.std.specs.Prelude.{IfErr, IfOk, IsErrOf, IsSome, IsTrue, OnOk, map};
     ghost use Rattle.flusher.specs.Flushes.{IsFlushOf};
     ghost use Rattle.flusher.specs.Room.{TapeHasNoRoom};
+    ghost use Rattle.ledger_core.specs.Index.{debt_at};
     ghost use Rattle.ledger_core.specs.State.{IsOwed};
     ghost use Rattle.note_queue.specs.Calls.{TakesMore};
     ghost use Rattle.note_queue.specs.Ends.{IsSameEnd, KeepsFor};
     ghost use Rattle.note_queue.specs.Relay.{IsAt};
     ghost use Rattle.note_queue.specs.Words.{kept_of, tape_of};
+    ghost use Rattle.recovery.specs.Notes.{History};
+    ghost use Rattle.recovery.specs.Tape.{StandsFor};
+    ghost use Rattle.recovery.specs.Texts.{HasLengths, debts_at, lengths_of};
     ghost use Rattle.recovery.specs.Words.{IsDebtFault, IsDue, IsFlushFault, IsFull, IsRotateFault, RotatesTooLong};
     ghost use Rattle.recovery.specs.Words.{generation_of, ledger_of};
 
@@ -145,8 +148,11 @@ impl<D: Disk, N: Naming> TapeDesk<D, N> {
 
     /// The debt of this key, read back; None if the tape does not owe it.
     pub fn debt(&mut self, key: Key) -> Result<Option<Debt>, TapeFault>
+        ensures debt { (h : History) → StandsFor (tape_of self.old.side) h
+            → IfOk result (λ debt. debt ≡ debt_at (ledger_of (tape_of self.old.side)) key) }
         ensures owed { IfOk result
-            (λ debt. IsSome debt ↔ IsOwed (ledger_of (tape_of self.old.side)) key) }
+            (λ debt. (IsSome debt ↔ IsOwed (ledger_of (tape_of self.old.side)) key)
+            × HasLengths (ledger_of (tape_of self.old.side)) key debt) }
         ensures keeps { IsSameEnd self.old.side self.new.side }
         ensures kinds { IfErr result IsDebtFault }
     {
@@ -154,16 +160,16 @@ impl<D: Disk, N: Naming> TapeDesk<D, N> {
         side.debt(key)
     }
 
-    /// The debts of these keys, in their order, as far as the tape owes them, they can be read and there is memory.
-    pub fn debts(&mut self, alloc: Global, keys: &[Key]) -> Vec<Debt>
-        ensures { IsSameEnd self.old.side self.new.side }
+    /// The debts of these keys, in their order, read back; a key that the tape does not owe is passed over.
+    pub fn debts(&mut self, keys: &[Key]) -> Result<Vec<Debt>, TapeFault>
+        ensures debts { (h : History) → StandsFor (tape_of self.old.side) h → IfOk result
+            (λ debts. debts.items ≡ debts_at (ledger_of (tape_of self.old.side)) keys.now) }
+        ensures owed { IfOk result (λ debts. map lengths_of debts.items
+            ≡ map lengths_of (debts_at (ledger_of (tape_of self.old.side)) keys.now)) }
+        ensures keeps { IsSameEnd self.old.side self.new.side }
+        ensures kinds { IfErr result IsDebtFault }
     {
-        let mut debts = Vec::new(alloc);
-        for key in keys {
-            if let Ok(Some(debt)) = self.debt(*key) {
-                let _ = debts.push(debt);
-            }
-        }
-        debts
+        let TapeDesk { side, .. } = self;
+        side.debts(keys)
     }
 }

@@ -1,3 +1,4 @@
+pub mod Above
 pub mod AllLater
 pub mod Claims
 pub mod Closes

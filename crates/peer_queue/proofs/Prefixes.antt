@@ -27,7 +27,7 @@ each_from_All : (P : ℕ → Type 0) (l : List ℕ) → All P l → Each P l
 each_from_All P [] all = tt
 each_from_All P (n ∷ l) all = (All-head P n l all, each_from_All P l (All-tail P n l all))
 
-each_at : (P : ℕ → Type 0) (l : List ℕ) (i : ℕ) → Each P l → i < length l → P (get_or l i 0)
+pub each_at : (P : ℕ → Type 0) (l : List ℕ) (i : ℕ) → Each P l → i < length l → P (get_or l i 0)
 each_at P [] i each inside = absurd (omega arith)
 each_at P (n ∷ l) zero each inside = each.0
 each_at P (n ∷ l) (suc i) each inside = each_at P l i each.1 (omega arith)

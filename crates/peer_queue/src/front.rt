@@ -42,8 +42,8 @@ pub struct Front {
 
 impl Front {
     ghost use Rattle.std.specs.Prelude.{◌⊎◌, ◌↔◌, ◌≤◌, true, List, Some, None, Ok};
-    ghost use Rattle.std.specs.Prelude.{length, take, find, nat_lt, min};
-    ghost use Rattle.std.specs.Prelude.{IfErr, IfNone, IfOk, IfSome, IsErr, IsErrOf, IsTrue, OnErr, OnOk};
+    ghost use Rattle.std.specs.Prelude.{length, take, filter, find, nat_lt, min};
+    ghost use Rattle.std.specs.Prelude.{IfErr, IfNone, IfOk, IfSome, IsErr, IsErrOf, IsSome, IsTrue, OnErr, OnOk};
     ghost use Rattle.ledger_core.specs.declared.ledger.LedgerFault.{LedgerFault};
     ghost use Rattle.ledger_core.specs.declared.note.Note.{Note};
     ghost use Rattle.ledger_core.specs.Shape.{FitsShape, IsSized, OverflowsShape, shape_marks, shape_totals};
@@ -189,10 +189,30 @@ impl Front {
         self.outbox.unsettled(key)
     }
 
-    /// The least key above this one that is owed and that no connection holds: what can be claimed next after it, now
-    /// or later.
-    pub fn next_unheld(&self, key: Key) -> Option<Key>
-        ensures { result ≡ find (λ other. nat_lt key other) (unheld (places_of self.now)) }
+    /// The keys above this one that are owed and that no connection holds, rising, at most `most` of them: what can be
+    /// claimed next after it, now or later. Logarithmic in what is owed, for each key.
+    ///
+    /// # Errors
+    /// `NoMemory` if memory was refused.
+    pub fn unheld_after(&self, key: Key, most: usize) -> Result<Vec<Key>, AllocError>
+        ensures { IfOk result (λ keys. keys.items
+            ≡ take most (filter (λ other. nat_lt key other) (unheld (places_of self.now)))) }
+    {
+        let mut keys = Vec::new(self.alloc);
+        let mut next = self.next_unheld(key);
+        while let Some(key) = next
+            && keys.len() < most
+        {
+            keys.push(key)?;
+            next = self.next_unheld(key);
+        }
+        Ok(keys)
+    }
+
+    // The least key above this one that is owed and that no connection holds.
+    fn next_unheld(&self, key: Key) -> Option<Key>
+        ensures next { result ≡ find (λ other. nat_lt key other) (unheld (places_of self.now)) }
+        ensures rising { IsSome result → AreRising (places_of self.now) }
     {
         match key.next() {
             Some(next) => self.index.unheld_from(next),

@@ -122,8 +122,8 @@ impl<D: Disk> Tape<D> {
     }
 
     /// The debts of these keys, in their order, read back; a key that is not owed is passed over. The live segment is
-    /// read in pieces, so that notes which follow each other there, as those of rising keys mostly do, cost few reads of
-    /// the disk.
+    /// read in pieces, so that notes which follow each other there, as those of rising keys mostly do, cost few reads
+    /// of the disk.
     ///
     /// # Errors
     /// Tried in this order: `Broken`; `NoMemory` if there is none for a piece; those of [`Tape::debt`], of the first

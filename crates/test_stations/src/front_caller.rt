@@ -9,7 +9,7 @@ use disk_model::MemDisk;
 use ledger_core::{Cause, Debt, Key, Totals};
 use peer_queue::{Front, Limits, Owed, Settled, Station, StationFault};
 use recovery::{Flushed, Tape};
-use std::alloc::Global;
+use std::alloc::{AllocError, Global};
 use std::fmt::Debug;
 use std::process::Abort;
 use std::test::Fail;
@@ -62,6 +62,8 @@ pub(crate) enum FrontStep {
     Shed(usize, bool),
     // These keys are owed.
     List(&'static [u64]),
+    // Above the funnel's line of this number, at most this many keys that no connection holds: these.
+    UnheldAfter(u64, usize, &'static [u64]),
     // Whether the front has the texts of this key.
     Texts(u64, bool),
     // This many notes that were not sent are copied to the tape, which takes them.
@@ -324,9 +326,14 @@ fn finish<A: Abort>(
     }
 }
 
-// The keys that are owed are the wanted ones, unless memory was refused.
-fn assert_listed<A: Abort>(rt: &A, split: &FrontAndTape, want: &[u64]) -> Result<StepEnd, Fail> {
-    let Ok(keys) = split.front.list() else {
+// The keys are the wanted ones, unless memory was refused.
+fn assert_listed<A: Abort>(
+    rt: &A,
+    split: &FrontAndTape,
+    keys: Result<Vec<Key>, AllocError>,
+    want: &[u64],
+) -> Result<StepEnd, Fail> {
+    let Ok(keys) = keys else {
         return Ok(StepEnd::WithoutMemory);
     };
     let told = all_in_rows(split.alloc, &keys)?;
@@ -463,7 +470,11 @@ fn call<A: Abort>(rt: &A, split: &mut FrontAndTape, step: FrontStep) -> Result<S
             let has = has_texts(rt, split, funnel_key(number));
             compare(rt, split.place, &has, &Ok(want))
         }
-        FrontStep::List(want) => assert_listed(rt, split, want)?,
+        FrontStep::List(want) => assert_listed(rt, split, split.front.list(), want)?,
+        FrontStep::UnheldAfter(number, most, want) => {
+            let keys = split.front.unheld_after(funnel_key(number), most);
+            assert_listed(rt, split, keys, want)?
+        }
         _ => take_outcome(rt, split, step)?,
     };
     Ok(end)

@@ -121,7 +121,7 @@ returns-clause-taken g c =
     let whole : l.all.taken.parts ≡ g.N.Naming.names.peers = omega (arith, zero, l.invariant.4, l.invariant.6) in
     let opened : g.N.Naming.names.opened.taken ≡ (total c.args.self.opened).taken =
     sym (ap (λ n. n.taken) (sym (ap (λ v. total v.opened) c.self.view_is) ∙ c.self.invariant.1)) in
-    let told : c.into_inner-taken.result.taken ≡ _ = sym c.parts-taken.ensures.count.1
+    let told : c.into_inner-taken.result ≡ _ = sym c.parts-taken.ensures.count.1
     ∙ (sym (c.audit-4.ensures.whole c.intake.invariant.0) ∙ ap (λ (s : IntakeCount). s.taken) c.intake.view_is) in
     sym l.invariant.9 ∙ (c.audit.ensures.whole whole ∙ (c.parts-taken.ensures.stations ∙ (λ i. opened i + told i)))
 
@@ -132,7 +132,7 @@ returns-clause-answered g c =
     let whole : l.all.answered.parts ≡ g.N.Naming.names.peers = omega (arith, zero, l.invariant.4, l.invariant.7) in
     let opened : g.N.Naming.names.opened.answered ≡ (total c.args.self.opened).answered =
     sym (ap (λ n. n.answered) (sym (ap (λ v. total v.opened) c.self.view_is) ∙ c.self.invariant.1)) in
-    let told : c.into_inner-taken.result.answered ≡ _ = sym c.parts-answered.ensures.count.1
+    let told : c.into_inner-answered.result.answered ≡ _ = sym c.parts-answered.ensures.count.1
     ∙ (sym (c.audit-5.ensures.whole c.joined-told_answered.ensures.answered.0)
     ∙ c.joined-told_answered.ensures.answered.1) in
     sym l.invariant.10 ∙ (c.audit-2.ensures.whole whole
@@ -145,7 +145,7 @@ returns-clause-dropped g c =
     let whole : l.all.dropped.parts ≡ g.N.Naming.names.peers = omega (arith, zero, l.invariant.4, l.invariant.8) in
     let opened : g.N.Naming.names.opened.dropped ≡ (total c.args.self.opened).dropped =
     sym (ap (λ n. n.dropped) (sym (ap (λ v. total v.opened) c.self.view_is) ∙ c.self.invariant.1)) in
-    let told : c.into_inner-taken.result.dropped ≡ _ = sym c.parts-dropped.ensures.count.1
+    let told : c.into_inner-answered.result.dropped ≡ _ = sym c.parts-dropped.ensures.count.1
     ∙ (sym (c.audit-6.ensures.whole c.joined-told_answered.ensures.dropped.0)
     ∙ c.joined-told_answered.ensures.dropped.1) in
     sym l.invariant.11 ∙ (c.audit-3.ensures.whole whole ∙ (c.parts-dropped.ensures.stations ∙ (λ i. opened i + told i)))

@@ -142,24 +142,24 @@ invariant_of-post g c =
           ++ map (λ q. q.queue.table.shared.table_id) r) none_queues) ∙ l.invariant.18),
     )
 
-pub close-requires-clause-total : goal.close-requires-clause-total
-close-requires-clause-total g c =
+pub close-requires-3-clause-total : goal.close-requires-3-clause-total
+close-requires-3-clause-total g c =
     let l = c.loop-peer in
     let none : l.peer-iterator.rest.items ≡ [] = nothing _ (search rules) in
     let opened : map (λ q. q.opened) l.made.items ≡ map sums_at c.args.peers.items = sym (all_moved _)
     ∙ (sym (ap (λ r. map (λ q. q.opened) l.made.items ++ map sums_at r) none) ∙ l.invariant.3) in
     l.invariant.15 ∙ (ap (λ m. (total m).taken) opened ∙ sym (ap (λ n. n.opened.taken) c.requires.names))
 
-pub close-requires-2-clause-total : goal.close-requires-2-clause-total
-close-requires-2-clause-total g c =
+pub close-requires-clause-total : goal.close-requires-clause-total
+close-requires-clause-total g c =
     let l = c.loop-peer in
     let none : l.peer-iterator.rest.items ≡ [] = nothing _ (search rules) in
     let opened : map (λ q. q.opened) l.made.items ≡ map sums_at c.args.peers.items = sym (all_moved _)
     ∙ (sym (ap (λ r. map (λ q. q.opened) l.made.items ++ map sums_at r) none) ∙ l.invariant.3) in
     l.invariant.16 ∙ (ap (λ m. (total m).answered) opened ∙ sym (ap (λ n. n.opened.answered) c.requires.names))
 
-pub close-requires-3-clause-total : goal.close-requires-3-clause-total
-close-requires-3-clause-total g c =
+pub close-requires-2-clause-total : goal.close-requires-2-clause-total
+close-requires-2-clause-total g c =
     let l = c.loop-peer in
     let none : l.peer-iterator.rest.items ≡ [] = nothing _ (search rules) in
     let opened : map (λ q. q.opened) l.made.items ≡ map sums_at c.args.peers.items = sym (all_moved _)

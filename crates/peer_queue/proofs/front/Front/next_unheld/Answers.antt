@@ -7,14 +7,14 @@ use Rattle.peer_queue.proofs.Prefixes.{found_last}
 use Rattle.peer_queue.proofs.Shaped.{past_outline}
 use Rattle.peer_queue.proofs.front.Front.next_unheld.Goals as goal
 
-pub returns-in-Some : goal.returns-in-Some
-returns-in-Some c =
+pub returns-in-Some-clause-next : goal.returns-in-Some-clause-next
+returns-in-Some-clause-next c =
     c.unheld_from.ensures.first
     ∙ ap (λ (k : ℕ). find (λ m. nat_le k m) (unheld (places_of c.args.self.now)))
     (c.in-Some.ensures.some ∙ add-one c.args.key)
 
-pub returns-in-None : goal.returns-in-None
-returns-in-None c =
+pub returns-in-None-clause-next : goal.returns-in-None-clause-next
+returns-in-None-clause-next c =
     let front = c.args.self.now in
     let shape = front_shape front in
     sym (found_last c.args.key front.index (shape_marks shape) (keys_sized shape.sizes) front.all_placed

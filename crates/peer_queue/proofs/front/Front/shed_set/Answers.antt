@@ -58,7 +58,7 @@ loop-next-preserved c =
     let more : length c.push.new.self.items ≡ length set + 1 =
     ap (λ (l : List ℕ). length l) c.in_ok-push.ensures.items ∙ length_push set n in
     let rising = c.unheld_from-next.ensures.rising in
-    let found = c.next_unheld-next.ensures in
+    let found = c.next_unheld-next.ensures.next in
     let is = subst (λ (o : Option ℕ). IsPrefix limit (sized_without shape.sizes) places set o owed) c.in-Some.is
     c.loop-next.invariant.front in
     let fall = c.saturating_sub-owed.ensures ∙ ap (λ (k : ℕ). owed - k) (c.unwrap_or.ensures ∙
