@@ -23,13 +23,14 @@ const BUSY: u64 = 1_001;
 
 const REFUSED: u64 = 1_002;
 
-// A pace that claims two debts of the first peer while its tape is flushed.
+// A pace that claims two debts of the first peer while its tape is flushed, and then counts further claims.
 #[derive(Drop)]
 struct Asking<'a, D: Disk, N: Naming, R: Wait> {
     rt: &'a R,
     post: &'a Post<D, N>,
     first: AtomicU64,
     second: AtomicU64,
+    more: AtomicU64,
 }
 
 impl<D: Disk, N: Naming, R: Wait> Pace for Asking<'_, D, N, R> {
@@ -39,6 +40,8 @@ impl<D: Disk, N: Naming, R: Wait> Pace for Asking<'_, D, N, R> {
                 .store(claimed(self.rt, self.post), Ordering::SeqCst);
             self.second
                 .store(claimed(self.rt, self.post), Ordering::SeqCst);
+            self.more
+                .store(given_in_a_row(self.rt, self.post), Ordering::SeqCst);
         }
     }
 }
@@ -56,6 +59,16 @@ fn claimed<D: Disk, N: Naming, R: Wait>(rt: &R, post: &Post<D, N>) -> u64 {
     }
 }
 
+// How many claims in a row give a debt, 500 at most.
+fn given_in_a_row<D: Disk, N: Naming, R: Wait>(rt: &R, post: &Post<D, N>) -> u64 {
+    for count in 0..500 {
+        if claimed(rt, post) >= NO_DEBT {
+            return count;
+        }
+    }
+    500
+}
+
 // Claims a debt of the first peer, and doesn't wait; if memory is refused, once more.
 fn claim_at_last<D: Disk, N: Naming, R: Wait>(
     rt: &R,
@@ -69,12 +82,13 @@ fn claim_at_last<D: Disk, N: Naming, R: Wait>(
     }
 }
 
-// What the claims give before the flush, during it and after it.
+// What the claims give before the flush, during it and after it, and how many more give a debt during it.
 #[derive(Clone, Copy, Debug, PartialEq, Eq)]
 struct FlushClaims {
     before: u64,
     first: u64,
     second: u64,
+    more: u64,
     then: u64,
     receipt: u64,
     taken: u64,
@@ -90,12 +104,14 @@ fn flushed<'a, D: Disk, N: Naming, R: Wait>(
         post,
         first: AtomicU64::new(NO_DEBT),
         second: AtomicU64::new(NO_DEBT),
+        more: AtomicU64::new(NO_DEBT),
     };
     let receipt = post.flush_all(rt, &pace)?.number();
     Ok(FlushClaims {
         before: NO_DEBT,
         first: pace.first.load(Ordering::SeqCst),
         second: pace.second.load(Ordering::SeqCst),
+        more: pace.more.load(Ordering::SeqCst),
         then: claimed(rt, post),
         receipt,
         taken: 0,
@@ -162,6 +178,7 @@ fn what_only_the_tape_has_is_refused_in_its_flush(rt: HostRuntime) -> Result<(),
         before: NO_DEBT,
         first: 1,
         second: BUSY,
+        more: 0,
         then: 7,
         receipt: 1,
         taken: 1,
@@ -185,7 +202,36 @@ fn what_was_read_ahead_is_claimed_in_a_flush(rt: HostRuntime) -> Result<(), Fail
         before: 7,
         first: 8,
         second: 9,
+        more: 0,
         then: NO_DEBT,
+        receipt: 0,
+        taken: 0,
+    };
+    assert_eq!(rt; claims, want);
+    Ok(())
+}
+
+// One claim that reads the tape reads the next 128 debts, and no more of them: the next one is only on the tape.
+#[test]
+fn a_step_is_read_ahead(rt: HostRuntime) -> Result<(), Fail> {
+    let alloc = rt.alloc();
+    let mut numbers = Vec::new(alloc);
+    for number in 1..301 {
+        numbers.push(number)?;
+    }
+    let claims = on_disks(
+        &rt,
+        alloc,
+        peer_with_backlog(alloc, b"p", &numbers)?,
+        intake(alloc)?,
+        None,
+    )?;
+    let want = FlushClaims {
+        before: 1,
+        first: 2,
+        second: 3,
+        more: 126,
+        then: 130,
         receipt: 0,
         taken: 0,
     };
