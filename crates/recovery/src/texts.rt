@@ -15,6 +15,12 @@ use ledger_core::{Debt, Key, Note, Spot, decode, encode_base, note_in, owed_len,
 use std::alloc::{AllocError, Global};
 use tape_journal::{Gathered, ReadFault};
 
+// The pieces in which the live segment is read for some debts, in octets: about what a hundred notes take.
+const DEBTS_PIECE_OCTETS: u64 = 16_384;
+
+// The pieces in which it is read for all of them.
+const ALL_PIECE_OCTETS: u64 = 131_072;
+
 // The debt that a payload owes, if it has this key and texts of these lengths.
 fn debt_of(alloc: Global, key: Key, spot: Spot, payload: &[u8]) -> Result<Debt, TapeFault>
     ensures debt { (debt : Owing) → IsNote (owe debt) → payload.now ≡ spelling (owe debt)
@@ -73,6 +79,7 @@ impl<D: Disk> Tape<D> {
     ghost use Rattle.std.specs.Prelude.{List, slice_index_or};
     ghost use Rattle.recovery.specs.Pending.{payloads_in};
     ghost use Rattle.ledger_core.specs.Ledger.{state_of};
+    ghost use Rattle.std.specs.List.{Contains};
     ghost use Rattle.std.specs.List.Sorted.{IsStrictlyIncreasing};
     ghost use Rattle.ledger_core.specs.State.{IsOwed, keys};
     ghost use Rattle.tape_journal.specs.Gathered.{octets_in};
@@ -136,6 +143,8 @@ impl<D: Disk> Tape<D> {
         ensures owed { IfOk result (λ debts. map lengths_of debts.items
             ≡ map lengths_of (debts_at (ledger_of self.old) keys.now)) }
         ensures broken { IsErrOf result TapeFault.Broken ↔ IsBroken self.old }
+        ensures refuses { IsErrOf result TapeFault.Disk
+            → (key : ℕ) × Contains keys.now key × IsOwed (ledger_of self.old) key }
         ensures cause { (h : History) → StandsFor self.old h
             → IsErrOf result TapeFault.Disk → OneHasRisen (faults_of self.old)
             (faults_of self.new) }
@@ -146,7 +155,7 @@ impl<D: Disk> Tape<D> {
         if self.segments.live.is_broken() {
             return Err(TapeFault::Broken);
         }
-        self.read_ahead()?;
+        self.read_ahead(DEBTS_PIECE_OCTETS)?;
         let debts = self.debts_each(keys);
         self.read_singly();
         debts
@@ -159,6 +168,8 @@ impl<D: Disk> Tape<D> {
             (λ debts. debts.items ≡ debts_at (ledger_of self.old) keys.now) }
         ensures owed { IfOk result (λ debts. map lengths_of debts.items
             ≡ map lengths_of (debts_at (ledger_of self.old) keys.now)) }
+        ensures refuses { IsErrOf result TapeFault.Disk
+            → (key : ℕ) × Contains keys.now key × IsOwed (ledger_of self.old) key }
         ensures cause { (h : History) → StandsFor self.old h
             → IsErrOf result TapeFault.Disk → OneHasRisen (faults_of self.old)
             (faults_of self.new) }
@@ -301,17 +312,18 @@ impl<D: Disk> Tape<D> {
         ensures reads { IsRead self.old self.new }
         ensures quiet { OnOk result (faults_of self.new ≡ faults_of self.old) }
     {
-        self.read_ahead()?;
+        self.read_ahead(ALL_PIECE_OCTETS)?;
         let read = self.read_each(spots);
         self.read_singly();
         read
     }
 
-    fn read_ahead(&mut self) -> Result<(), AllocError>
+    // Reads the live segment in pieces of so many octets from now on.
+    fn read_ahead(&mut self, piece: u64) -> Result<(), AllocError>
         ensures reads { IsRead self.old self.new }
         ensures faults { faults_of self.new ≡ faults_of self.old }
     {
-        self.segments.live.read_ahead()
+        self.segments.live.read_ahead(piece)
     }
 
     fn read_singly(&mut self)

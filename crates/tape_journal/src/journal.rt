@@ -276,18 +276,19 @@ impl<D: Disk> Journal<D> {
         }
     }
 
-    /// Reads ahead from now on: `payload_at` and `part_at` take up the disk in pieces of 131,072 octets, and read no
-    /// more if the last of them has what is asked. What they answer stays the same. Takes room for a piece.
+    /// Reads ahead from now on: `payload_at` and `part_at` take up the disk in pieces of so many octets, but of 131,072
+    /// at most, and read no more if the last of them has what is asked. What they answer stays the same. Takes room for
+    /// a piece.
     ///
     /// # Errors
     /// `NoMemory` if memory was refused; nothing changes.
-    pub fn read_ahead(&mut self) -> Result<(), AllocError>
+    pub fn read_ahead(&mut self, piece: u64) -> Result<(), AllocError>
         ensures stays { (all : List (List ℕ)) → Holds self.old all → Holds self.new all }
         ensures disk { disk_of self.new ≡ disk_of self.old }
         ensures end { end_of self.new ≡ end_of self.old }
         ensures works { IsBroken self.old ↔ IsBroken self.new }
     {
-        self.window = Window::onto(self.alloc, self.disk.len())?;
+        self.window = Window::onto(self.alloc, self.disk.len().min(piece))?;
         Ok(())
     }
 

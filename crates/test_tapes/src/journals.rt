@@ -130,7 +130,7 @@ fn take<A: Abort, D: Disk>(
         JournalStep::ReadPart(offset, from, most, want) => {
             assert_part(rt, at, journal, (offset, from, most), want)?
         }
-        JournalStep::ReadAhead => journal.read_ahead()?,
+        JournalStep::ReadAhead => journal.read_ahead(131_072)?,
         JournalStep::ReadSingly => journal.read_singly(),
         JournalStep::IsBroken(want) => assert_answer(rt, at, &journal.is_broken(), &want),
         JournalStep::Bytes(want) => assert_answer(rt, at, &journal.bytes(), &want),
@@ -346,7 +346,7 @@ fn parts_read(alloc: Global, segment: &[u8], calls: u64) -> Result<usize, Fail> 
     let Ok((_, mut journal)) = opened(alloc, disk) else {
         return Ok(0);
     };
-    journal.read_ahead()?;
+    journal.read_ahead(131_072)?;
     for (count, (offset, from, most)) in PARTS.iter().enumerate() {
         match journal.part_at(*offset, *from, *most) {
             Ok(_) => (),
