@@ -1,7 +1,8 @@
 // Keys that wait for a moment.
 ghost use Rattle.std.specs.Prelude.{◌≡◌, ℕ, ◌≤◌, ◌↔◌, [], None, Some, IsSome, IsTrue, IfNone};
-ghost use Rattle.std.specs.Prelude.{IfSome, OnErr, OnOk};
-ghost use Rattle.deferral.specs.Due.{IsDue, IsLeastDue, IsLeastDueFrom, IsRising, added, changed, due_of, removed};
+ghost use Rattle.std.specs.Prelude.{IfOk, IfSome, OnErr, OnOk, take};
+ghost use Rattle.deferral.specs.Due.{IsDue, IsLeastDue, IsLeastDueFrom, IsRising, added, changed, due_numbers};
+ghost use Rattle.deferral.specs.Due.{due_of, removed};
 
 use crate::tree::{Tree, TreeEntry};
 use ledger_core::Key;
@@ -12,7 +13,8 @@ use std::marker::Model;
 /// moment is never due and keeps its room, so that it takes no memory to give it a moment again.
 ///
 /// Contracts see the list of its keys, each with its moment or none, by strictly rising keys. A call takes at most a
-/// constant times as many steps as a key has bits, whatever keys wait, and memory is linear in how many wait.
+/// constant times as many steps as a key has bits, whatever keys wait, unless it says otherwise, and memory is linear
+/// in how many wait.
 #[derive(Drop)]
 pub struct Later {
     alloc: Global,
@@ -96,6 +98,21 @@ impl Later {
             None => None,
             Some(tree) => tree.due_from(first, now),
         }
+    }
+
+    /// The least keys at or above the first whose moment is at or before this one, at most so many, by rising keys. It
+    /// takes at most a constant times as many steps as a key has bits for each key that it returns, and once more.
+    ///
+    /// # Errors
+    /// `NoMemory` if memory was refused.
+    pub fn due_keys_from(&self, first: Key, now: u64, most: usize) -> Result<Vec<Key>, AllocError>
+        ensures { IfOk result (λ keys. keys.items ≡ take most (due_numbers first now self.now)) }
+    {
+        let mut keys = Vec::new(self.alloc);
+        if let Some(tree) = &self.tree {
+            tree.push_due(first, now, most, &mut keys)?;
+        }
+        Ok(keys)
     }
 
     /// Gives a waiting key this moment instead, or none; returns whether the key waits. Takes no memory.

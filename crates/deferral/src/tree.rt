@@ -2,9 +2,10 @@
 // key is found by its value and by its moment. The keys are in the leaves. Each fork is at the highest bit in which its
 // keys differ.
 ghost use Rattle.std.specs.Prelude.{◌≡◌, ℕ, [], ◌∷◌, ◌≤◌, ◌<◌, ◌↔◌, ◌++◌, ◌⊎◌};
-ghost use Rattle.std.specs.Prelude.{true, false, IsSome, IsTrue, IfNone, IfSome, OnErr, OnOk, Option};
-ghost use Rattle.deferral.specs.Due.{AllNumbers, IsDue, IsLeastDueFrom, Waiting, added, changed, due_of, removed};
-ghost use Rattle.deferral.specs.Tree.{IsBy, earlier};
+ghost use Rattle.std.specs.Prelude.{true, false, IsSome, IsTrue, IfNone, IfSome, OnErr, OnOk, Option, length, take};
+ghost use Rattle.deferral.specs.Due.{AllNumbers, IsDue, IsLeastDueFrom, Waiting, added, changed, due_numbers, due_of};
+ghost use Rattle.deferral.specs.Due.{is_by, removed};
+ghost use Rattle.deferral.specs.Tree.{earlier};
 
 use ledger_core::Key;
 use std::alloc::{AllocError, Global};
@@ -77,7 +78,7 @@ fn earlier_of(one: Option<u64>, other: Option<u64>) -> Option<u64>
 
 /// Whether there is a moment, and it is at or before now.
 fn is_by(due: Option<u64>, now: u64) -> bool
-    ensures { IsTrue result ↔ IsBy due now }
+    ensures { result ≡ is_by due now }
 {
     match due {
         None => false,
@@ -187,6 +188,22 @@ impl Fork {
         } else {
             self.right.due_from(first, now)
         }
+    }
+
+    #[cycle(push_due)]
+    fn push_due(
+        &self,
+        first: Key,
+        now: u64,
+        most: usize,
+        keys: &mut Vec<Key>,
+    ) -> Result<(), AllocError>
+        requires { length keys.old.items ≤ most }
+        ensures ok { OnOk result (keys.new.items
+            ≡ take most (keys.old.items ++ due_numbers first now (both self.now))) }
+    {
+        self.left.push_due(first, now, most, keys)?;
+        self.right.push_due(first, now, most, keys)
     }
 
     /// Puts in a key that it does not have, on its side of the split.
@@ -310,6 +327,31 @@ impl Tree {
             Tree::Leaf(entry) => Some(entry.key),
             Tree::Fork(fork) => fork.due_from(first, now),
         }
+    }
+
+    /// Appends the keys at or above the first whose moment is at or before now, by rising keys, until there are `most`.
+    #[cycle(push_due)]
+    pub fn push_due(
+        &self,
+        first: Key,
+        now: u64,
+        most: usize,
+        keys: &mut Vec<Key>,
+    ) -> Result<(), AllocError>
+        requires { length keys.old.items ≤ most }
+        ensures ok { OnOk result (keys.new.items
+            ≡ take most (keys.old.items ++ due_numbers first now (waiting_in self.now))) }
+    {
+        // As for the least key, but until there are enough.
+        let Bounds { last, least, .. } = self.bounds();
+        if keys.len() >= most || last.is_below(first) || !is_by(least, now) {
+            return Ok(());
+        }
+        match self {
+            Tree::Leaf(entry) => keys.push(entry.key)?,
+            Tree::Fork(fork) => fork.push_due(first, now, most, keys)?,
+        }
+        Ok(())
     }
 
     /// The split of a fork over the tree and this key beside it; `None` if the key belongs below the tree's own fork.

@@ -20,6 +20,8 @@ enum WaitStep {
     // The least number that is due at this moment, and the least that is due from the first on.
     DueLeast(u64, Option<u64>),
     DueFrom(u64, u64, Option<u64>),
+    // The least that are due from the first on, and how many of them at most.
+    DueKeys(u64, u64, usize, &'static [u64]),
 }
 
 // The result of trying a place.
@@ -75,6 +77,13 @@ fn take<A: Abort>(rt: &A, later: &mut Later, at: usize, step: WaitStep) -> Resul
         ),
         WaitStep::DueFrom(first, now, want) => {
             assert_answer(rt, at, &number_of(later.due_from(line(first), now)), &want)
+        }
+        WaitStep::DueKeys(first, now, most, want) => {
+            let keys = later.due_keys_from(line(first), now, most)?;
+            assert_answer(rt, at, &keys.len(), &want.len());
+            for (key, number) in keys.iter().zip(want) {
+                assert_answer(rt, at, &key.number(), number);
+            }
         }
     }
     Ok(())
@@ -181,6 +190,25 @@ fn numbers_wait_for_their_moments(rt: HostRuntime) -> Result<(), Fail> {
             WaitStep::DueFrom(4, 9, None),
             WaitStep::Remove(u64::MAX, true),
             WaitStep::DueFrom(6, 10, None),
+        ],
+        // The least from a number on, several at once.
+        &[
+            WaitStep::DueKeys(0, u64::MAX, 9, &[]),
+            WaitStep::Put(9, 10),
+            WaitStep::DueKeys(9, 10, 9, &[9]),
+            WaitStep::DueKeys(10, 10, 9, &[]),
+            WaitStep::Put(5, 20),
+            WaitStep::Put(6, 10),
+            WaitStep::Put(3, 10),
+            WaitStep::Put(u64::MAX, 0),
+            WaitStep::Set(6, None, true),
+            WaitStep::DueKeys(0, 20, usize::MAX, &[3, 5, 9, u64::MAX]),
+            WaitStep::DueKeys(0, 19, usize::MAX, &[3, 9, u64::MAX]),
+            WaitStep::DueKeys(0, 20, 3, &[3, 5, 9]),
+            WaitStep::DueKeys(0, 20, 0, &[]),
+            WaitStep::DueKeys(4, 20, 1, &[5]),
+            WaitStep::DueKeys(6, 20, 1, &[9]),
+            WaitStep::DueKeys(u64::MAX, 0, 2, &[u64::MAX]),
         ],
     ];
     for steps in SCRIPTS {
