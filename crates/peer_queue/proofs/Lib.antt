@@ -1,4 +1,3 @@
-pub mod Above
 pub mod AllLater
 pub mod Claims
 pub mod Closes

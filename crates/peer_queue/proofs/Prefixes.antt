@@ -109,16 +109,32 @@ found_none : (test : ℕ → Bool) (l : List ℕ) → Each (λ m. test m ≡ fal
 found_none test [] each = refl
 found_none test (n ∷ l) each = ap (λ (b : Bool). cond b (Some n) (find test l)) each.0 ∙ found_none test l each.1
 
+filtered_none : (test : ℕ → Bool) (l : List ℕ) → Each (λ m. test m ≡ false) l → filter test l ≡ []
+filtered_none test [] each = refl
+filtered_none test (n ∷ l) each =
+    ap (λ (b : Bool). cond b (n ∷ filter test l) (filter test l)) each.0 ∙ filtered_none test l each.1
+
 -- none is above the last key
+not_past : (n : ℕ) (p : Places) (marks : Marks) (ns : List ℕ) → placed p ≡ ns → All (IsPast marks) ns
+    → marks.closed + 1 < 2 ^ 32 → marks.import_mark < 2 ^ 64 → n + 1 ≡ 2 ^ 96
+    → Each (λ m. nat_lt n m ≡ false) (unheld p)
+not_past n p marks ns same past opens fits last =
+    each_unheld (λ m. nat_lt n m ≡ false) p (subst (λ (k : List ℕ). Each (λ m. nat_lt n m ≡ false) k) (sym same)
+    (each_map (IsPast marks) (λ m. nat_lt n m ≡ false) ns
+    (λ m here. le-ltb n m (omega (arith, here.import, opens, fits, last)))
+    (each_from_All (IsPast marks) ns past)))
+
 pub found_last : (n : ℕ) (p : Places) (marks : Marks) (ns : List ℕ) → placed p ≡ ns → All (IsPast marks) ns
     → marks.closed + 1 < 2 ^ 32 → marks.import_mark < 2 ^ 64 → n + 1 ≡ 2 ^ 96
     → find (λ m. nat_lt n m) (unheld p) ≡ None
 found_last n p marks ns same past opens fits last =
-    found_none (λ m. nat_lt n m) (unheld p)
-    (each_unheld (λ m. nat_lt n m ≡ false) p (subst (λ (k : List ℕ). Each (λ m. nat_lt n m ≡ false) k) (sym same)
-    (each_map (IsPast marks) (λ m. nat_lt n m ≡ false) ns
-    (λ m here. le-ltb n m (omega (arith, here.import, opens, fits, last)))
-    (each_from_All (IsPast marks) ns past))))
+    found_none (λ m. nat_lt n m) (unheld p) (not_past n p marks ns same past opens fits last)
+
+pub none_last : (n : ℕ) (p : Places) (marks : Marks) (ns : List ℕ) → placed p ≡ ns → All (IsPast marks) ns
+    → marks.closed + 1 < 2 ^ 32 → marks.import_mark < 2 ^ 64 → n + 1 ≡ 2 ^ 96
+    → filter (λ m. nat_lt n m) (unheld p) ≡ []
+none_last n p marks ns same past opens fits last =
+    filtered_none (λ m. nat_lt n m) (unheld p) (not_past n p marks ns same past opens fits last)
 
 -- ---- at a place
 

@@ -1,8 +1,9 @@
 -- The numbers of an index that no connection holds.
-use Rattle.std.proofs.Common.{◌≡◌, ℕ, zero, suc, ◌<◌, ◌≤◌, Bool, cond, Option, Some, None, List, [], ◌∷◌, refl, sym, ap, ◌∙◌, subst, inl, inr, arith}
-use Rattle.std.specs.Prelude.{IfNone, IfSome, IsSome, nat_le, find}
-use Rattle.std.proofs.lemmas.Bool.{cases_lt, eq-eqb, le-leb, lt-leb, ne_eqb}
-use Rattle.deferral.specs.Due.{Waiting, IsDue, IsLeastDueFrom, IsRising, due_of}
+use Rattle.std.proofs.Common.{◌≡◌, ℕ, zero, suc, ◌<◌, ◌≤◌, Bool, true, false, cond, Option, Some, None}
+use Rattle.std.proofs.Common.{List, [], ◌∷◌, map, refl, sym, ap, ◌∙◌, subst, inl, inr, arith}
+use Rattle.std.specs.Prelude.{IfNone, IfSome, IsSome, ◌&&◌, nat_le, filter, find}
+use Rattle.std.proofs.lemmas.Bool.{and_right, cases_lt, eq-eqb, le-leb, lt-leb, ne_eqb}
+use Rattle.deferral.specs.Due.{Waiting, IsDue, IsLeastDueFrom, IsRising, due_numbers, due_of, is_by}
 use Rattle.peer_queue.specs.DebtPlace.{AreUnheld, Places, all_gone, gone, unheld}
 use Rattle.peer_queue.specs.Index.{Holders, place_by, places_by}
 use Rattle.peer_queue.proofs.Moves.{above_at, at_head, due_cases, in_tail}
@@ -73,6 +74,43 @@ pub unheld_is : (r : Option ℕ) (h : Holders) (agenda : Waiting) (first now : �
     → IfSome r (λ n. IsLeastDueFrom agenda first now n) → IfNone r ((n : ℕ) → first ≤ n → IsDue agenda now n → ⊥) → r ≡ find (λ m. nat_le first m) (unheld (places_by h agenda))
 unheld_is None h agenda first now rising within some none = sym (unheld_none h agenda first now rising within none)
 unheld_is (Some n) h agenda first now rising within some none = sym (unheld_some h agenda first now n rising within some)
+
+-- ---- all of them from one on
+
+kept_by : (b : Bool) (n : ℕ) (o : Option ℕ) (rest : Waiting) (l : List ℕ) → map (λ (entry : ℕ × Option ℕ). entry.0) rest ≡ l
+    → map (λ (entry : ℕ × Option ℕ). entry.0) (cond b ((n, o) ∷ rest) rest) ≡ cond b (n ∷ l) l
+kept_by true n o rest l is = ap (λ (k : List ℕ). n ∷ k) is
+kept_by false n o rest l is = is
+
+and_true : (b c : Bool) → c ≡ true → (b && c) ≡ b
+and_true true c is = is
+and_true false c is = refl
+
+due_cons : (first now n : ℕ) (o : Option ℕ) (xs : Waiting) (l : List ℕ) → ((d : ℕ) → o ≡ Some d → d ≤ now)
+    → due_numbers first now xs ≡ filter (λ m. nat_le first m) l
+    → due_numbers first now ((n, o) ∷ xs) ≡ filter (λ m. nat_le first m) (with_head o n l)
+unfolding with_head
+due_cons first now n None xs l within rest =
+    let F = filter (λ (entry : ℕ × Option ℕ). nat_le first entry.0 && is_by entry.1 now) xs in
+    ap (λ (b : Bool). map (λ (entry : ℕ × Option ℕ). entry.0) (cond b ((n, None) ∷ F) F))
+    (and_right (nat_le first n) false refl)
+    ∙ rest
+due_cons first now n (Some d) xs l within rest =
+    let F = filter (λ (entry : ℕ × Option ℕ). nat_le first entry.0 && is_by entry.1 now) xs in
+    ap (λ (b : Bool). map (λ (entry : ℕ × Option ℕ). entry.0) (cond b ((n, Some d) ∷ F) F))
+    (and_true (nat_le first n) (nat_le d now) (le-leb d now (within d refl)))
+    ∙ kept_by (nat_le first n) n (Some d) F (filter (λ m. nat_le first m) l) rest
+
+-- they are due at a moment that no wait ends behind
+pub unheld_due : (h : Holders) (agenda : Waiting) (first now : ℕ) → IsRising agenda
+    → ((n d : ℕ) → due_of agenda n ≡ Some (Some d) → d ≤ now)
+    → due_numbers first now agenda ≡ filter (λ m. nat_le first m) (unheld (places_by h agenda))
+unheld_due h [] first now rising within = refl
+unheld_due h (x ∷ xs) first now rising within =
+    let tail : (n d : ℕ) → due_of xs n ≡ Some (Some d) → d ≤ now = λ n d e. within n d (due_tail n d x xs rising e) in
+    due_cons first now x.0 x.1 xs (unheld (places_by h xs)) (λ d e. within x.0 d (due_head d x xs e))
+    (unheld_due h xs first now rising.1 tail)
+    ∙ sym (ap (filter (λ m. nat_le first m)) (unheld_cons (h x.0) x.1 x.0 (places_by h xs)))
 
 -- ---- taken out one after another
 

@@ -190,7 +190,7 @@ impl Front {
     }
 
     /// The keys above this one that are owed and that no connection holds, rising, at most `most` of them: what can be
-    /// claimed next after it, now or later. Logarithmic in what is owed, for each key.
+    /// claimed next after it, now or later. Logarithmic in what is owed, once, and for each key at most.
     ///
     /// # Errors
     /// `NoMemory` if memory was refused.
@@ -198,15 +198,15 @@ impl Front {
         ensures { IfOk result (λ keys. keys.items
             ≡ take most (filter (λ other. nat_lt key other) (unheld (places_of self.now)))) }
     {
-        let mut keys = Vec::new(self.alloc);
-        let mut next = self.next_unheld(key);
-        while let Some(key) = next
-            && keys.len() < most
-        {
-            keys.push(key)?;
-            next = self.next_unheld(key);
+        match key.next() {
+            Some(next) => self.index.unheld_keys_from(next, most),
+            None => {
+                // It has 64 bits, so the last key is above all that are owed.
+                let _import_mark = self.outbox.outline.import_mark();
+                let _closed = self.outbox.outline.closed();
+                Ok(Vec::new(self.alloc))
+            }
         }
-        Ok(keys)
     }
 
     // The least key above this one that is owed and that no connection holds.

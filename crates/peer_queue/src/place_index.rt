@@ -1,6 +1,6 @@
 // Where each debt is.
 ghost use Rattle.std.specs.Prelude.{◌≡◌, ◌↔◌, [], ℕ, None, IfNone, IfOk, IfSome, IsTrue};
-ghost use Rattle.std.specs.Prelude.{OnErr, OnOk, ◌<◌, ◌^◌, nat_le, find, length};
+ghost use Rattle.std.specs.Prelude.{OnErr, OnOk, ◌<◌, ◌^◌, nat_le, filter, find, length, take};
 ghost use Rattle.std.specs.List.{All};
 ghost use Rattle.std.specs.List.Sorted.{IsStrictlyIncreasing};
 ghost use Rattle.peer_queue.specs.DebtPlace.{AreRising, AreUnheld, Held, IsHeldBy, IsLater, IsUnheld, Ready};
@@ -166,6 +166,17 @@ impl PlaceIndex {
         ensures rising { AreRising self.now }
     {
         self.agenda.due_from(first, u64::MAX)
+    }
+
+    /// The least keys at or above the first that no connection holds, rising, at most so many.
+    ///
+    /// # Errors
+    /// `NoMemory` if memory was refused.
+    pub fn unheld_keys_from(&self, first: Key, most: usize) -> Result<Vec<Key>, AllocError>
+        ensures { IfOk result (λ keys. keys.items
+            ≡ take most (filter (λ key. nat_le first key) (unheld self.now))) }
+    {
+        self.agenda.due_keys_from(first, u64::MAX, most)
     }
 
     /// Whether every key waits for a moment.
