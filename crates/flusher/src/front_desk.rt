@@ -197,6 +197,9 @@ impl<N: Naming> FrontDesk<N> {
 
     /// The keys of the debts that are read ahead next: those that can be claimed next behind what was read, 128 of them
     /// at most, as long as there is room for so many.
+    ///
+    /// # Errors
+    /// `NoMemory` if memory was refused; nothing changes.
     pub fn keys_ahead(&mut self) -> Result<Vec<Key>, AllocError>
         ensures keys { IfOk result (λ keys. keys.items
             ≡ take (wanted_behind (kept_in self.old.ahead))
@@ -216,6 +219,9 @@ impl<N: Naming> FrontDesk<N> {
     }
 
     /// Keeps debts that were read ahead, as far as there is room for them.
+    ///
+    /// # Errors
+    /// `NoMemory` if memory was refused; nothing changes.
     pub fn keep_ahead(&mut self, debts: Vec<Debt>) -> Result<(), AllocError>
         ensures ok { OnOk result
             (kept_in self.new.ahead ≡ kept_with (kept_in self.old.ahead) debts.items) }

@@ -31,7 +31,8 @@ impl ReadAhead {
 
     /// Nothing was read.
     pub fn new(alloc: Global) -> Self
-        ensures { kept_in result ≡ [] }
+        ensures kept { kept_in result ≡ [] }
+        ensures end { end_in result ≡ 0 }
     {
         ReadAhead {
             debts: VecDeque::new(alloc),

@@ -47,8 +47,9 @@ impl Flush {
 }
 
 impl<D: Disk, N: Naming> TapeDesk<D, N> {
-    ghost use Rattle.std.specs.Prelude.{◌-◌, ◌^◌, ◌↔◌, ◌⊎◌, None};
+    ghost use Rattle.std.specs.Prelude.{◌≢◌, ◌-◌, ◌^◌, ◌↔◌, ◌⊎◌, ℕ, None};
     ghost use Rattle.std.specs.Prelude.{IfErr, IfOk, IsErrOf, IsSome, IsTrue, OnOk, map};
+    ghost use Rattle.std.specs.List.{Contains};
     ghost use Rattle.flusher.specs.Flushes.{IsFlushOf};
     ghost use Rattle.flusher.specs.Room.{TapeHasNoRoom};
     ghost use Rattle.ledger_core.specs.Index.{debt_at};
@@ -60,8 +61,8 @@ impl<D: Disk, N: Naming> TapeDesk<D, N> {
     ghost use Rattle.recovery.specs.Notes.{History};
     ghost use Rattle.recovery.specs.Tape.{StandsFor};
     ghost use Rattle.recovery.specs.Texts.{HasLengths, debts_at, lengths_of};
-    ghost use Rattle.recovery.specs.Words.{IsDebtFault, IsDue, IsFlushFault, IsFull, IsRotateFault, RotatesTooLong};
-    ghost use Rattle.recovery.specs.Words.{generation_of, ledger_of};
+    ghost use Rattle.recovery.specs.Words.{IsBroken, IsDebtFault, IsDue, IsFlushFault, IsFull, IsRotateFault};
+    ghost use Rattle.recovery.specs.Words.{OneHasRisen, RotatesTooLong, faults_of, generation_of, ledger_of};
 
     /// Puts on the tape what was sent ([`Side::pull`]). It calls no disk.
     pub fn pull<R: Wait>(&mut self, rt: &R, queue: &NoteQueue) -> Result<(), TapeFault>
@@ -146,26 +147,38 @@ impl<D: Disk, N: Naming> TapeDesk<D, N> {
         }
     }
 
-    /// The debt of this key, read back; None if the tape does not owe it.
+    /// The debt of this key, read back; None if the tape does not owe it ([`Side::debt`]).
     pub fn debt(&mut self, key: Key) -> Result<Option<Debt>, TapeFault>
         ensures debt { (h : History) → StandsFor (tape_of self.old.side) h
             → IfOk result (λ debt. debt ≡ debt_at (ledger_of (tape_of self.old.side)) key) }
         ensures owed { IfOk result
             (λ debt. (IsSome debt ↔ IsOwed (ledger_of (tape_of self.old.side)) key)
             × HasLengths (ledger_of (tape_of self.old.side)) key debt) }
+        ensures broken { IsErrOf result TapeFault.Broken ↔ IsBroken (tape_of self.old.side) }
+        ensures refuses { IfErr result (λ e. IsDebtFault e
+            × (e ≢ TapeFault.Broken → IsOwed (ledger_of (tape_of self.old.side)) key)) }
+        ensures cause { (h : History) → StandsFor (tape_of self.old.side) h
+            → IsErrOf result TapeFault.Disk → OneHasRisen (faults_of (tape_of self.old.side))
+            (faults_of (tape_of self.new.side)) }
         ensures keeps { IsSameEnd self.old.side self.new.side }
-        ensures kinds { IfErr result IsDebtFault }
     {
         let TapeDesk { side, .. } = self;
         side.debt(key)
     }
 
-    /// The debts of these keys, in their order, read back; a key that the tape does not owe is passed over.
+    /// The debts of these keys, in their order, read back; a key that the tape does not owe is passed over
+    /// ([`Side::debts`]).
     pub fn debts(&mut self, keys: &[Key]) -> Result<Vec<Debt>, TapeFault>
         ensures debts { (h : History) → StandsFor (tape_of self.old.side) h → IfOk result
             (λ debts. debts.items ≡ debts_at (ledger_of (tape_of self.old.side)) keys.now) }
         ensures owed { IfOk result (λ debts. map lengths_of debts.items
             ≡ map lengths_of (debts_at (ledger_of (tape_of self.old.side)) keys.now)) }
+        ensures broken { IsErrOf result TapeFault.Broken ↔ IsBroken (tape_of self.old.side) }
+        ensures refuses { IsErrOf result TapeFault.Disk
+            → (key : ℕ) × Contains keys.now key × IsOwed (ledger_of (tape_of self.old.side)) key }
+        ensures cause { (h : History) → StandsFor (tape_of self.old.side) h
+            → IsErrOf result TapeFault.Disk → OneHasRisen (faults_of (tape_of self.old.side))
+            (faults_of (tape_of self.new.side)) }
         ensures keeps { IsSameEnd self.old.side self.new.side }
         ensures kinds { IfErr result IsDebtFault }
     {

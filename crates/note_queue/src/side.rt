@@ -29,7 +29,8 @@ pub struct Side<D: Disk> {
 }
 
 impl<D: Disk> Side<D> {
-    ghost use Rattle.std.specs.Prelude.{◌≢◌, IsSome, map};
+    ghost use Rattle.std.specs.Prelude.{◌≢◌, ℕ, IsSome, map};
+    ghost use Rattle.std.specs.List.{Contains};
     ghost use Rattle.ledger_core.specs.Index.{debt_at};
     ghost use Rattle.ledger_core.specs.Ledger.{totals_of};
     ghost use Rattle.ledger_core.specs.State.{IsOwed};
@@ -205,6 +206,8 @@ impl<D: Disk> Side<D> {
         ensures owed { IfOk result (λ debts. map lengths_of debts.items
             ≡ map lengths_of (debts_at (ledger_of self.old.tape) keys.now)) }
         ensures broken { IsErrOf result TapeFault.Broken ↔ IsBroken self.old.tape }
+        ensures refuses { IsErrOf result TapeFault.Disk
+            → (key : ℕ) × Contains keys.now key × IsOwed (ledger_of self.old.tape) key }
         ensures kinds { IfErr result IsDebtFault }
         ensures cause { (h : History) → StandsFor self.old.tape h → IsErrOf result TapeFault.Disk
             → OneHasRisen (faults_of self.old.tape) (faults_of self.new.tape) }
