@@ -10,6 +10,9 @@
 # steps are the same, but with 100,000 numbers more of them wait for memory, since the tree outgrows the nearer caches. So
 # the ratio is 14 to 26 by the machine, and is no measure of the steps.
 #
+# listed: all that are due are gone through in lists of 128 keys, beside a call for each key. The aim is a ratio of under
+# a half.
+#
 # Other programs that run at the same time move each ratio by up to a half. It fails on none.
 . "$(dirname "$(readlink -f "${BASH_SOURCE[0]}")")/lib.sh"
 build tool_bench
@@ -20,4 +23,10 @@ for order in rising scattered; do
     many=$(best 5 processor 1 bench deferral "$pattern" "$order" 100000)
     ratio "Later, $pattern, $order, growth from 10,000 to 100,000 numbers" "$many" "$few"
   done
+done
+
+for order in rising scattered; do
+  listed=$(best 5 processor 1 bench deferral listed "$order" 100000)
+  stepped=$(best 5 processor 1 bench deferral stepped "$order" 100000)
+  ratio "Later, $order, 100,000 keys in lists of 128, beside a call for each" "$listed" "$stepped"
 done

@@ -1,10 +1,11 @@
-// How the work of a `Later` grows with its numbers, in four patterns, and for two orders in which the numbers are put
+// How the work of a `Later` grows with its numbers, in six patterns, and for two orders in which the numbers are put
 // in.
 //
 // `PATTERN ORDER COUNT` runs one pattern. `together`: all are due at once, and each is taken out as the least due.
 // `waiting`: none is due, and the least due is asked for once for each number. `again`: the least due is taken out and
 // put in again for 60 seconds later, once for each number. `held`: each, in the order in which they were put in, is
-// made due at no moment, and then the least due is asked for. The time includes that of putting the numbers in.
+// made due at no moment, and then the least due is asked for. `stepped` and `listed`: all that are due are gone
+// through, 20 times, one by one, or in lists of 128. The time includes that of putting the numbers in.
 use crate::time::{number, tell};
 use anyhow::{Result, bail};
 use deferral::Later;
@@ -24,6 +25,12 @@ enum NumberOrder {
 // How far apart successive numbers are in scattered order, modulo their count. It is prime: each number comes once,
 // unless the count is a multiple of it.
 const STRIDE_NUMBERS: u64 = 461_803;
+
+// How often all that are due are gone through.
+const ROUNDS: u32 = 20;
+
+// How many keys a list has at most.
+const LIST_MAX_KEYS: usize = 128;
 
 impl NumberOrder {
     fn named(name: &str) -> Result<NumberOrder> {
@@ -62,7 +69,7 @@ pub fn run<R: AllocGlobal + Print + Clock>(rt: &R, words: &[String]) -> Result<(
 }
 
 fn small<R: AllocGlobal + Print>(rt: &R) -> Result<()> {
-    for pattern in ["together", "waiting", "again", "held"] {
+    for pattern in ["together", "waiting", "again", "held", "stepped", "listed"] {
         let rising = worked(rt.alloc(), pattern, NumberOrder::Rising, 200)?;
         let scattered = worked(rt.alloc(), pattern, NumberOrder::Scattered, 200)?;
         println!(rt;
@@ -80,7 +87,11 @@ fn worked(alloc: Global, pattern: &str, order: NumberOrder, count: u32) -> Resul
         "waiting" => Ok(waiting(&later, count)),
         "again" => again(&mut later, count),
         "held" => Ok(held(&mut later, order, count)),
-        _ => bail!("no pattern of deferral: together, waiting, again and held are"),
+        "stepped" => Ok(stepped(&later, count)),
+        "listed" => listed(&later, count),
+        _ => bail!(
+            "no pattern of deferral: together, waiting, again, held, stepped and listed are"
+        ),
     }
 }
 
@@ -146,4 +157,55 @@ fn held(later: &mut Later, order: NumberOrder, count: u32) -> u64 {
         }
     }
     found
+}
+
+// How many are due, each found by a call of its own.
+fn stepped_once(later: &Later, count: u32) -> u64 {
+    let mut found = 0u64;
+    let mut first = Some(Key::new(0, 0));
+    for _turn in 0..count {
+        let Some(from) = first else {
+            break;
+        };
+        let Some(key) = later.due_from(from, 60) else {
+            break;
+        };
+        found = found.saturating_add(1);
+        first = key.next();
+    }
+    found
+}
+
+fn stepped(later: &Later, count: u32) -> u64 {
+    let mut found = 0u64;
+    for _round in 0..ROUNDS {
+        found = stepped_once(later, count);
+    }
+    found
+}
+
+// How many are due, by one call for each list.
+fn listed_once(later: &Later, count: u32) -> Result<u64> {
+    let mut found = 0u64;
+    let mut first = Some(Key::new(0, 0));
+    for _turn in 0..count {
+        let Some(from) = first else {
+            break;
+        };
+        let keys = later.due_keys_from(from, 60, LIST_MAX_KEYS)?;
+        found = found.saturating_add(keys.len() as u64);
+        first = match keys.last() {
+            Some(last) => last.next(),
+            None => None,
+        };
+    }
+    Ok(found)
+}
+
+fn listed(later: &Later, count: u32) -> Result<u64> {
+    let mut found = 0u64;
+    for _round in 0..ROUNDS {
+        found = listed_once(later, count)?;
+    }
+    Ok(found)
 }
