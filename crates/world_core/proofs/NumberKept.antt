@@ -1,5 +1,5 @@
 -- How a number is kept, and when it may be sealed.
-use Rattle.std.proofs.Common.{◌≡◌, ℕ, zero, suc, ◌+◌, ◌<◌, Bool, true, false, ◌&&◌, Option, None, Some, IfSome}
+use Rattle.std.proofs.Common.{◌≡◌, ℕ, zero, suc, ◌+◌, ◌<◌, Bool, true, false, ◌&&◌, Option, None, Some, IfSome, IfNone}
 use Rattle.std.proofs.Common.{List, [], ◌∷◌, ◌++◌, length, get_or, take, drop, map, refl, sym, ap, ◌∙◌, subst, arith}
 use Rattle.std.proofs.Common.{add-one}
 use Rattle.std.proofs.Math.ListN.{set}
@@ -17,6 +17,10 @@ use Rattle.world_core.proofs.RelatedLists.{zip_both}
 pub if_some : {A : Type 0} (o : Option A) (P : A → Type 0) → ((x : A) → o ≡ Some x → P x) → IfSome o P
 if_some None P all = tt
 if_some (Some x) P all = all x refl
+
+pub if_none : {A : Type 0} (o : Option A) (P : Type 0) → (o ≡ None → P) → IfNone o P
+if_none None P all = all refl
+if_none (Some x) P all = tt
 
 -- ---- one more element of a list was changed in place
 

@@ -1,5 +1,7 @@
 // One peer of a world.
 ghost use Rattle.std.specs.Prelude.{◌≡◌, IfErr, IfOk, OnOk};
+ghost use Rattle.std.specs.Cmp.Lexicographic.{slice_cmp};
+ghost use Rattle.std.specs.Ordering.{nat_cmp};
 ghost use Rattle.std.specs.Str.{bytes_eq};
 ghost use Rattle.world_core.specs.Past.{limits_of};
 
@@ -13,6 +15,7 @@ use peer_queue::{Limits, Owed, Station, each_number_has_one_place};
 use recovery::TapeFault;
 use std::alloc::Global;
 use std::cell::Cell;
+use std::cmp::Ordering;
 use std::rc::Rc;
 
 /// A peer whose station is open.
@@ -46,6 +49,13 @@ impl<D: Disk> Peer<D> {
         ensures { result ≡ bytes_eq self.now.conf.name name.now }
     {
         self.conf.name.bytes() == name.bytes()
+    }
+
+    // How its name compares with this one, in byte order.
+    pub(crate) fn compare_name(&self, name: &PeerName) -> Ordering
+        ensures { result ≡ slice_cmp nat_cmp self.now.conf.name name.now }
+    {
+        self.conf.name.bytes().cmp(name.bytes())
     }
 
     // Owes a line that names it, and returns what came of it.

@@ -265,7 +265,7 @@ impl<D: Disk> Stations<D> {
         ensures within { MatchOption result (Unit {0}) (λ rank. rank < vec_len self.now.peers) }
     {
         self.peers
-            .binary_search_by(|peer| peer.conf.name.bytes().cmp(name.bytes()))
+            .binary_search_by(|peer| peer.compare_name(name))
             .ok()
     }
 }
