@@ -7,7 +7,7 @@ ghost use Rattle.tape_journal.specs.declared.fault.JournalFault.TheVariants.{Dam
 
 use crate::append::{add_records, are_short, records_len, staging_of};
 use crate::fault::refusal_of_reading;
-use crate::read::{part_of, payloads_of, record_at};
+use crate::read::{RECORD_HEAD_OCTETS, part_of, payloads_of, record_at};
 use crate::window::Window;
 use crate::{AppendFault, JournalFault, OpenFault, ReadFault, Unrepaired};
 use disk_model::Disk;
@@ -34,11 +34,14 @@ pub struct Journal<D: Disk> {
     pub(crate) disk: D,
     pub(crate) end: u64,
     pub(crate) broken: bool,
-    // What was read of the disk last, while it reads ahead.
+    // What was read of the disk last, while it reads ahead: a piece, and the head of a record that lay outside of it.
     pub(crate) window: Window,
+    pub(crate) heads: Window,
     ghost fits: { end < 2 ^ 64 - 1 },
     ghost shows: { D.honest disk → shown_by window
         ≡ take (held_by window) (drop (start_of window) (content (D.log disk))) },
+    ghost shows_head: { D.honest disk → shown_by heads
+        ≡ take (held_by heads) (drop (start_of heads) (content (D.log disk))) },
 }
 
 ghost use Rattle.tape_journal.specs.Words.{read_fault};
@@ -181,6 +184,7 @@ impl<D: Disk> Journal<D> {
         }
         let staged = staging_of(self.alloc, payloads, added)?;
         self.window.forget();
+        self.heads.forget();
         match add_records(&mut self.disk, self.end, &staged, payloads) {
             Ok(()) => {
                 self.end += added;
@@ -268,7 +272,17 @@ impl<D: Disk> Journal<D> {
             return Err(ReadFault::Disk);
         }
         let window = &mut self.window;
-        let found = part_of(self.alloc, window, &mut self.disk, offset, len, from, most);
+        let heads = &mut self.heads;
+        let found = part_of(
+            self.alloc,
+            window,
+            heads,
+            &mut self.disk,
+            offset,
+            len,
+            from,
+            most,
+        );
         match found {
             Ok(Some(part)) => Ok(part),
             Ok(None) => Err(ReadFault::Disk),
@@ -288,7 +302,10 @@ impl<D: Disk> Journal<D> {
         ensures end { end_of self.new ≡ end_of self.old }
         ensures works { IsBroken self.old ↔ IsBroken self.new }
     {
-        self.window = Window::onto(self.alloc, self.disk.len().min(piece))?;
+        let len = self.disk.len();
+        let window = Window::onto(self.alloc, len.min(piece))?;
+        self.heads = Window::onto(self.alloc, len.min(RECORD_HEAD_OCTETS))?;
+        self.window = window;
         Ok(())
     }
 
@@ -300,6 +317,7 @@ impl<D: Disk> Journal<D> {
         ensures works { IsBroken self.old ↔ IsBroken self.new }
     {
         self.window = Window::unbuffered(self.alloc);
+        self.heads = Window::unbuffered(self.alloc);
     }
 
     /// Breaks it, as a call that fails on its disk does. It makes no disk call.

@@ -127,9 +127,11 @@ pub(crate) fn head_at<D: Disk>(
 }
 
 // The same, if `wanted` octets from there on are read next: a window with room for them takes them up at once. So a
-// part of a record that lies past the window does not move the window past the record's head.
+// part of a record that lies past the window does not move the window past the record's head. The head of a record that
+// the window has no room for is read through another window, and kept there, while this one goes on in the record.
 fn head_before<D: Disk>(
     window: &mut Window,
+    heads: &mut Window,
     disk: &mut D,
     at: u64,
     len: u64,
@@ -137,7 +139,9 @@ fn head_before<D: Disk>(
 ) -> Result<Head, OpenFault>
     requires inside { at < len }
     requires shows { D.honest disk.old → Shows window.old (content (D.log disk.old)) }
+    requires shows_head { D.honest disk.old → Shows heads.old (content (D.log disk.old)) }
     ensures shows { D.honest disk.old → Shows window.new (content (D.log disk.old)) }
+    ensures shows_head { D.honest disk.old → Shows heads.new (content (D.log disk.old)) }
     ensures honest { D.honest disk.old ↔ D.honest disk.new }
     ensures log { D.honest disk.old → D.log disk.new ≡ D.log disk.old }
     ensures is { D.honest disk.old → len ≡ length (content (D.log disk.old))
@@ -150,8 +154,13 @@ fn head_before<D: Disk>(
         → IsErrOf result OpenFault.Disk → HasRisen (D.faults_of disk.old) (D.faults_of disk.new) }
     ensures quiet { OnOk result (D.faults_of disk.new ≡ D.faults_of disk.old) }
 {
-    window.reach(disk, at, wanted.min(len - at))?;
-    head_at(window, disk, at, len)
+    let left = len - at;
+    window.reach(disk, at, wanted.min(left))?;
+    if window.has(at, left.min(RECORD_HEAD_OCTETS) as usize) {
+        head_at(window, disk, at, len)
+    } else {
+        head_at(heads, disk, at, len)
+    }
 }
 
 // The record at an offset before the disk's end, or None if the segment ends there.
@@ -194,6 +203,7 @@ pub(crate) fn record_at<D: Disk>(
 pub(crate) fn part_of<D: Disk>(
     alloc: Global,
     window: &mut Window,
+    heads: &mut Window,
     disk: &mut D,
     at: u64,
     len: u64,
@@ -202,7 +212,9 @@ pub(crate) fn part_of<D: Disk>(
 ) -> Result<Option<Vec<u8>>, OpenFault>
     requires inside { at < len }
     requires shows { D.honest disk.old → Shows window.old (content (D.log disk.old)) }
+    requires shows_head { D.honest disk.old → Shows heads.old (content (D.log disk.old)) }
     ensures shows { D.honest disk.old → Shows window.new (content (D.log disk.old)) }
+    ensures shows_head { D.honest disk.old → Shows heads.new (content (D.log disk.old)) }
     ensures honest { D.honest disk.old ↔ D.honest disk.new }
     ensures log { D.honest disk.old → D.log disk.new ≡ D.log disk.old }
     ensures reads { D.honest disk.old → len ≡ length (content (D.log disk.old))
@@ -217,7 +229,7 @@ pub(crate) fn part_of<D: Disk>(
     ensures quiet { OnOk result (D.faults_of disk.new ≡ D.faults_of disk.old) }
 {
     let wanted = RECORD_HEAD_OCTETS + u64::from(from) + u64::from(most);
-    let size = match head_before(window, disk, at, len, wanted)? {
+    let size = match head_before(window, heads, disk, at, len, wanted)? {
         Head::Record(size) => size,
         Head::End => return Ok(None),
         Head::CutShort => return Err(OpenFault::Damaged { at }),
@@ -315,5 +327,7 @@ pub fn peek_first_part<D: Disk>(
     if len == 0 {
         return Ok(None);
     }
-    part_of(alloc, &mut Window::unbuffered(alloc), disk, 0, len, 0, most)
+    let mut window = Window::unbuffered(alloc);
+    let mut heads = Window::unbuffered(alloc);
+    part_of(alloc, &mut window, &mut heads, disk, 0, len, 0, most)
 }

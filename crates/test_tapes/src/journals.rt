@@ -337,46 +337,86 @@ fn steps_are_taken_at_a_journal(rt: HostRuntime) -> Result<(), Fail> {
     Ok(())
 }
 
-// How many of three parts are read of a journal that reads ahead, if its disk passes this many calls. The segment has
-// three records of 65,541 octets each, so that the first window, of 131,072, ends within the second. The second part
-// lies past that end, and the third is before it in the same record.
-fn parts_read(alloc: Global, segment: &[u8], calls: u64) -> Result<usize, Fail> {
-    const PARTS: [(u64, u32, u32); 3] = [(0, 0, 1), (65_541, 65_530, 6), (65_541, 0, 6)];
+// How many of these parts are read of a journal that reads ahead in such pieces, if its disk passes this many calls.
+fn parts_read(
+    alloc: Global,
+    segment: &[u8],
+    piece: u64,
+    parts: &[(u64, u32, u32)],
+    calls: u64,
+) -> Result<usize, Fail> {
     let disk = FuseDisk::new(disk_of(alloc, segment)?, calls);
     let Ok((_, mut journal)) = opened(alloc, disk) else {
         return Ok(0);
     };
-    journal.read_ahead(131_072)?;
-    for (count, (offset, from, most)) in PARTS.iter().enumerate() {
+    journal.read_ahead(piece)?;
+    for (count, (offset, from, most)) in parts.iter().enumerate() {
         match journal.part_at(*offset, *from, *most) {
             Ok(_) => (),
             Err(ReadFault::NoMemory) => return Err(Fail::from(ReadFault::NoMemory)),
             Err(_) => return Ok(count),
         }
     }
-    Ok(PARTS.len())
+    Ok(parts.len())
 }
 
-// Once there are calls enough for the first part, one more reads both others.
-#[test]
-fn a_window_moves_to_a_records_head(rt: HostRuntime) -> Result<(), Fail> {
-    let alloc = rt.alloc();
-    let payload = vec![in alloc; 7u8; 65_536]?;
-    let mut segment = Vec::new(alloc);
-    for _ in 0..3 {
-        segment.extend_from_slice(&[0xa5, 0, 1, 0, 0])?;
-        segment.extend_from_slice(&payload)?;
-    }
-    segment.push(0)?;
+// How many calls its disk must pass for the first part.
+fn calls_for_a_part(
+    alloc: Global,
+    segment: &[u8],
+    piece: u64,
+    parts: &[(u64, u32, u32)],
+) -> Result<u64, Fail> {
     for calls in 0..100 {
-        let count = parts_read(alloc, &segment, calls)?;
-        if count > 0 {
-            assert_answer(&rt, 0, &count, &1);
-            assert_answer(&rt, 1, &parts_read(alloc, &segment, calls + 1)?, &3);
-            return Ok(());
+        if parts_read(alloc, segment, piece, parts, calls)? > 0 {
+            return Ok(calls);
         }
     }
     Err(Fail::from("a part"))
+}
+
+#[test]
+fn parts_cost_few_calls(rt: HostRuntime) -> Result<(), Fail> {
+    // Of how many records the segment is, the length of each payload, the length of a piece, the parts that are read,
+    // and how many of them are read by as many calls as the first one takes, by one more, and so on.
+    const ROWS: [(usize, u32, u64, &[(u64, u32, u32)], &[usize]); 2] = [
+        // The first piece ends within the second record. The second part lies past that end, and the third is before
+        // it in the same record.
+        (
+            3,
+            65_536,
+            131_072,
+            &[(0, 0, 1), (65_541, 65_530, 6), (65_541, 0, 6)],
+            &[1, 3],
+        ),
+        // One record is longer than a piece. A call takes up what stands around the second part, and one the record's
+        // head, which is kept: so the last two parts cost none.
+        (
+            1,
+            40_000,
+            16_384,
+            &[(0, 0, 6), (0, 20_000, 6), (0, 20_006, 6), (0, 36_000, 6)],
+            &[1, 2, 4],
+        ),
+    ];
+    let alloc = rt.alloc();
+    for (at, (records, len, piece, parts, counts)) in ROWS.iter().enumerate() {
+        let payload = vec![in alloc; 7u8; *len as usize]?;
+        let mut segment = Vec::new(alloc);
+        for _ in 0..*records {
+            segment.push(0xa5)?;
+            segment.extend_from_slice(&len.to_be_bytes())?;
+            segment.extend_from_slice(&payload)?;
+        }
+        segment.push(0)?;
+        let first = calls_for_a_part(alloc, &segment, *piece, parts)?;
+        for (more, count) in counts.iter().enumerate() {
+            let calls = first.saturating_add(more as u64);
+            let read = parts_read(alloc, &segment, *piece, parts, calls)?;
+            assert_answer(&rt, at, &read, count);
+        }
+    }
+    Ok(())
 }
 
 // Whether a journal is opened, and then six octets of its first record are read, if its file passes this many calls,

@@ -19,6 +19,9 @@ disk_alone NoMemory is whole disk = absurd (cc is)
 pub part_of-found-requires-clause-shows : goal.part_of-found-requires-clause-shows
 part_of-found-requires-clause-shows g c honest = record { same = c.args.self.now.shows honest }
 
+pub part_of-found-requires-clause-shows_head : goal.part_of-found-requires-clause-shows_head
+part_of-found-requires-clause-shows_head g c honest = record { same = c.args.self.now.shows_head honest }
+
 pub returns-then-len-offset-clause-cause : goal.returns-then-len-offset-clause-cause
 returns-then-len-offset-clause-cause g c prefix more payload holds place told =
     let all = content (g.D.Disk.log c.args.self.now.disk) in
