@@ -94,7 +94,7 @@ struct FlushClaims {
     taken: u64,
 }
 
-// Flushes a post, and claims during the flush and after it.
+// Flushes a post, and claims during the flush.
 fn flushed<'a, D: Disk, N: Naming, R: Wait>(
     rt: &'a R,
     post: &'a Post<D, N>,
@@ -112,13 +112,32 @@ fn flushed<'a, D: Disk, N: Naming, R: Wait>(
         first: pace.first.load(Ordering::SeqCst),
         second: pace.second.load(Ordering::SeqCst),
         more: pace.more.load(Ordering::SeqCst),
-        then: claimed(rt, post),
+        then: NO_DEBT,
         receipt,
         taken: 0,
     })
 }
 
-// Takes a line, or else claims a debt, and then flushes.
+// Claims a debt, and flushes. If the next one was not read ahead, as if memory was refused to it, the debt is released,
+// claimed again, and all is flushed again.
+fn claimed_and_flushed<D: Disk, N: Naming, R: Wait>(
+    rt: &R,
+    post: &Post<D, N>,
+) -> Result<FlushClaims, Fail> {
+    if post.peers() == 0 {
+        return Err(Fail::from("a peer"));
+    }
+    let mut before = claimed(rt, post);
+    let mut claims = flushed(rt, post)?;
+    if claims.first == BUSY {
+        post.release(rt, 0, CxnId(1));
+        before = claimed(rt, post);
+        claims = flushed(rt, post)?;
+    }
+    Ok(FlushClaims { before, ..claims })
+}
+
+// Takes a line and flushes, or else claims a debt and flushes; claims during the flush and after it.
 fn run_steps<D: Disk + Drop, N: Naming, R: Wait>(
     rt: &R,
     alloc: Global,
@@ -132,17 +151,17 @@ fn run_steps<D: Disk + Drop, N: Naming, R: Wait>(
     requires flushed { All (λ p. IsFlushed p.station) peers.items }
 {
     let (post, mut lines, first, second, third) = Post::<D, N>::new(alloc, peers, intake, blanks)?;
-    let before = match line {
+    let claims = match line {
         Some(line) => {
             post.take_line(rt, line, &mut lines)?;
-            NO_DEBT
+            flushed(rt, &post)?
         }
-        None => claimed(rt, &post),
+        None => claimed_and_flushed(rt, &post)?,
     };
-    let claims = flushed(rt, &post)?;
+    let then = claimed(rt, &post);
     let sums = closed_sums(rt, post, lines, first, second, third)?;
     Ok(FlushClaims {
-        before,
+        then,
         taken: sums.taken,
         ..claims
     })
@@ -187,7 +206,8 @@ fn what_only_the_tape_has_is_refused_in_its_flush(rt: HostRuntime) -> Result<(),
     Ok(())
 }
 
-// A claim that reads a debt from the tape reads the next ones, too: they can be claimed during the flush.
+// A claim that reads a debt from the tape reads the next ones, too: they can be claimed during the flush. Also with
+// each allocation refused in turn: what was not read ahead for lack of memory is read ahead by the next claim.
 #[test]
 fn what_was_read_ahead_is_claimed_in_a_flush(rt: HostRuntime) -> Result<(), Fail> {
     let alloc = rt.alloc();
