@@ -11,4 +11,4 @@ returns-clause-folds g c =
     let log = view sender.pass in
     let left = c.join-tape.result in
     folded-shape (front_shape sender.front) (ledger_of left.tape) log.sent_on log.sent (kept_list left.kept)
-    left.queued.items (unsent_of sender.front) sender.noted c.join-tape.ensures.folds
+    left.queued.items (unsent_of sender.front) sender.noted.shape c.join-tape.ensures.folds
