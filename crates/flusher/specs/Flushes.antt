@@ -1,14 +1,41 @@
--- What a flush answers of a tape.
-use Rattle.std.specs.Prelude.{◌≡◌}
+-- What a flush answers of a tape, and what comes of it.
+use Rattle.std.specs.Prelude.{◌≡◌, ◌≢◌, ◌↔◌, Result, IfErr, IsErrOf, OnErr, OnOk}
 use Rattle.disk_model.specs.declared.Disk.{Ghosts}
 use Rattle.flusher.specs.declared.tape_desk.Flush.{Flush}
 use Rattle.ledger_core.specs.Ledger.{totals_of}
-use Rattle.recovery.specs.Words.{flushed_of, ledger_of, pending_of, place_of}
+use Rattle.recovery.specs.Image.{Survives, TapeLeaves}
+use Rattle.recovery.specs.Notes.{History, flushed}
+use Rattle.recovery.specs.Tape.{IsRead, StandsFor}
+use Rattle.recovery.specs.Words.{IsBroken, IsFlushFault, OneHasRisen, faults_of, flushed_of, ledger_of, log_of}
+use Rattle.recovery.specs.Words.{pending_of, place_of}
+use Rattle.recovery.specs.declared.fault.TapeFault.{TapeFault}
+use Rattle.recovery.specs.declared.fault.TapeFault.TheVariants.{Broken, Disk, TapeFull}
 use Rattle.recovery.specs.declared.tape.Tape.{Tape}
 
--- Nothing pends at the tape, and this is its place, how many of its notes are on the disks, and what it counts.
-pub record IsFlushOf {D : Type 0} {g : Ghosts D} (tape : Tape D g) (flush : Flush) : Type 0 where
-  pub place : flush.flushed.place ≡ place_of tape
-  pub count : flush.flushed.count ≡ flushed_of tape
-  pub totals : flush.totals ≡ totals_of (ledger_of tape)
-  pub none_pends : pending_of tape ≡ 0
+module _ {D : Type 0} {g : Ghosts D} where
+  -- Nothing pends at the tape, and this is its place, how many of its notes are on the disks, and what it counts.
+  pub record IsFlushOf (tape : Tape D g) (flush : Flush) : Type 0 where
+    pub place : flush.flushed.place ≡ place_of tape
+    pub count : flush.flushed.count ≡ flushed_of tape
+    pub totals : flush.totals ≡ totals_of (ledger_of tape)
+    pub none_pends : pending_of tape ≡ 0
+
+  -- What comes of the flush of a tape that stood for this history, be it rewritten or not.
+  pub record Acknowledges (h : History) (old new : Tape D g) (result : Result Flush TapeFault) : Type 0 where
+    -- all its notes are acknowledged
+    pub ok : OnOk result (StandsFor new (flushed h))
+    pub stays : OnErr result (StandsFor new h)
+    -- a stop at any moment of the call leaves a tape of a prefix of the notes, with every acknowledged one
+    pub moments : TapeLeaves (Survives h) (log_of old) (log_of new)
+    pub cause : IsErrOf result Disk → OneHasRisen (faults_of old) (faults_of new)
+
+  -- When a flush is refused that rewrites the tape if there is no room, in the order in which it is tried, and what it
+  -- leaves. `NoRoom`: there is none, nor would there be anew.
+  pub record RefusesAnew (NoRoom : Type 0) (old new : Tape D g) (result : Result Flush TapeFault) : Type 0 where
+    pub broken : IsErrOf result Broken ↔ IsBroken old
+    pub full : IsErrOf result TapeFull ↔ ((IsBroken old → ⊥) × NoRoom)
+    -- all but Disk change nothing
+    pub unchanged : IfErr result (λ e. e ≢ Disk → IsRead old new)
+    pub breaks : IsErrOf result Disk → IsBroken new
+    pub works : OnOk result (IsBroken new → ⊥)
+    pub kinds : IfErr result IsFlushFault

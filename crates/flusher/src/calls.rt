@@ -1,14 +1,19 @@
 // What workers ask of a post.
-ghost use Rattle.std.specs.Prelude.{◌≡◌, ◌+◌, ◌-◌, ◌<◌, ◌^◌, length, IfOk, IfErr, OnOk, OnErr};
-ghost use Rattle.std.specs.Prelude.{◌⊎◌, ◌↔◌, IsErrAnd, IsErrOf};
+ghost use Rattle.std.specs.Prelude.{◌≡◌, ◌≢◌, ◌↔◌, ◌⊎◌, ◌+◌, ◌-◌, ◌<◌, ◌^◌};
+ghost use Rattle.std.specs.Prelude.{[], IfErr, IfOk, IsErrAnd, IsErrOf, OnErr, OnOk, length};
+ghost use Rattle.crossbeam_queue.specs.Passes.{view};
 ghost use Rattle.flusher.specs.Counted.{IsCounted};
 ghost use Rattle.flusher.specs.Faults.{IsOfStation, IsPutOffFault, IsShedFault};
+ghost use Rattle.flusher.specs.Refuses.{RefusesHeldOf, RefusesOutcomeOf, ThenSent};
 ghost use Rattle.flusher.specs.Room.{IsCountFull};
 ghost use Rattle.note_queue.specs.Noted.{IsOnlySent};
-ghost use Rattle.note_queue.specs.Words.{front_of};
+ghost use Rattle.note_queue.specs.Relay.{Relayed, WasSeen};
+ghost use Rattle.note_queue.specs.Words.{front_of, sending};
 ghost use Rattle.peer_queue.specs.Faults.{IsEndFault};
-ghost use Rattle.peer_queue.specs.Front.{IsSame, KeepsNotes, places_of};
+ghost use Rattle.peer_queue.specs.Front.{IsBroken, IsSame, KeepsNotes, places_of, unsent_of};
+ghost use Rattle.peer_queue.specs.FrontCalls.{Finishes, Sheds};
 ghost use Rattle.peer_queue.specs.DebtPlace.{moved, place_until};
+ghost use Rattle.peer_queue.specs.declared.fault.StationFault.{StationFault};
 
 use crate::front_desk::FrontDesk;
 use crate::share::FeederShare;
@@ -137,6 +142,12 @@ impl<D: Disk, N: Naming> Post<D, N> {
     ) -> Result<(), PostFault>
         requires { peer < length self.now.names }
         ensures sends { IsOnlySent (front_of desk.old.seat.sender) (front_of desk.new.seat.sender) }
+        // All is sent, or at one moment of the call the queue was full, and the pass had sent what it has now.
+        ensures ok { OnOk result ((unsent_of (front_of desk.new.seat.sender) ≡ [])
+            ⊎ WasSeen Relayed 1024 (view (sending desk.new.seat.sender))) }
+        ensures stranger { IsErrOf result (PostFault.Stranger peer) ↔ desk.old.seat.place ≢ peer }
+        ensures no_memory { IsErrOf result PostFault.NoMemory
+            → unsent_of (front_of desk.new.seat.sender) ≢ [] }
         ensures reports { (desk.new.has_failed ≡ desk.old.has_failed)
             × (desk.new.acknowledged ≡ desk.old.acknowledged) }
         ensures kinds { IfErr result
@@ -279,6 +290,14 @@ impl<D: Disk, N: Naming> Post<D, N> {
         mine: &mut FeederShare<N>,
     ) -> Result<Settled, (Outcome, PostFault)>
         requires { peer < length self.now.names }
+        ensures ok { OnOk result (ThenSent
+            (Finishes connection.0 now outcome (front_of desk.old.seat.sender))
+            (front_of desk.new.seat.sender)) }
+        ensures same { OnErr result (ThenSent (IsSame (front_of desk.old.seat.sender))
+            (front_of desk.new.seat.sender)) }
+        ensures refuses { IsErrAnd result (λ e. e.1 ≡ PostFault.CountFull)
+            ⊎ RefusesOutcomeOf peer connection.0 now outcome (front_of desk.old.seat.sender)
+            result }
         ensures counted { IfOk result
             (λ settled. IsCounted outcome now settled mine.old mine.new) }
         ensures returned { IfErr result (λ e. e.0 ≡ outcome) }
@@ -305,6 +324,13 @@ impl<D: Disk, N: Naming> Post<D, N> {
         now: u64,
         mine: &mut FeederShare<N>,
     ) -> Result<Settled, (Outcome, PostFault)>
+        ensures ok { OnOk result (Finishes connection.0 now outcome
+            (front_of desk.old.seat.sender) (front_of desk.new.seat.sender)) }
+        ensures same { OnErr result
+            (IsSame (front_of desk.old.seat.sender) (front_of desk.new.seat.sender)) }
+        ensures refuses { IsErrAnd result (λ e. e.1 ≡ PostFault.CountFull)
+            ⊎ RefusesOutcomeOf peer connection.0 now outcome (front_of desk.old.seat.sender)
+            result }
         ensures counted { IfOk result
             (λ settled. IsCounted outcome now settled mine.old mine.new) }
         ensures returned { IfErr result (λ e. e.0 ≡ outcome) }
@@ -340,6 +366,8 @@ fn put_off_at<N: Naming>(
         × (places_of (front_of desk.new.seat.sender)
         ≡ moved (places_of (front_of desk.old.seat.sender)) debt.0 (place_until until))) }
     ensures returned { IfErr result (λ e. e.0 ≡ debt) }
+    ensures refuses { RefusesHeldOf peer (front_of desk.old.seat.sender) connection.0 debt.0
+        result }
     ensures kinds { IfErr result (λ e. IsOfStation peer IsPutOffFault e.1) }
     ensures unchanged { OnErr result
         (IsSame (front_of desk.old.seat.sender) (front_of desk.new.seat.sender)) }
@@ -357,14 +385,19 @@ fn shed_in<N: Naming>(
     tally: &mut Tally<N>,
     mine: &mut FeederShare<N>,
 ) -> Result<Shed, PostFault>
+    ensures ok { IfOk result
+        (Sheds (front_of desk.old.seat.sender) (front_of desk.new.seat.sender)) }
     ensures counted { IfOk result
         (λ shed. (mine.new.dropped ≡ mine.old.dropped + length shed.keys.items)
         × (mine.new.answered ≡ mine.old.answered)) }
     ensures count_full { IsErrOf result PostFault.CountFull ↔ IsCountFull tally.old.dropped }
+    ensures broken { IsErrOf result (PostFault.Station peer StationFault.Broken)
+        ↔ ((IsCountFull tally.old.dropped → ⊥) × IsBroken (front_of desk.old.seat.sender)) }
     ensures kinds { IfErr result
         (λ e. (e ≡ PostFault.CountFull) ⊎ IsOfStation peer IsShedFault e) }
     ensures unchanged { OnErr result
-        ((mine.new.answered ≡ mine.old.answered) × (mine.new.dropped ≡ mine.old.dropped)) }
+        ((mine.new.answered ≡ mine.old.answered) × (mine.new.dropped ≡ mine.old.dropped)
+        × IsSame (front_of desk.old.seat.sender) (front_of desk.new.seat.sender)) }
 {
     if tally.dropped.is_full() {
         return Err(PostFault::CountFull);
@@ -385,15 +418,20 @@ fn finish_in<N: Naming>(
     now: u64,
     mine: &mut FeederShare<N>,
 ) -> Result<Settled, (Outcome, PostFault)>
+    ensures ok { OnOk result (Finishes connection.0 now outcome (front_of desk.old.seat.sender)
+        (front_of desk.new.seat.sender)) }
     ensures counted { IfOk result
         (λ settled. IsCounted outcome now settled mine.old mine.new) }
     ensures returned { IfErr result (λ e. e.0 ≡ outcome) }
     ensures count_full { IsErrAnd result (λ e. e.1 ≡ PostFault.CountFull)
         ↔ (IsCountFull tally.old.answered ⊎ IsCountFull tally.old.dropped) }
+    ensures refuses { IsErrAnd result (λ e. e.1 ≡ PostFault.CountFull)
+        ⊎ RefusesOutcomeOf peer connection.0 now outcome (front_of desk.old.seat.sender) result }
     ensures kinds { IfErr result
         (λ e. (e.1 ≡ PostFault.CountFull) ⊎ IsOfStation peer IsEndFault e.1) }
     ensures unchanged { OnErr result
-        ((mine.new.answered ≡ mine.old.answered) × (mine.new.dropped ≡ mine.old.dropped)) }
+        ((mine.new.answered ≡ mine.old.answered) × (mine.new.dropped ≡ mine.old.dropped)
+        × IsSame (front_of desk.old.seat.sender) (front_of desk.new.seat.sender)) }
 {
     if !tally.has_room() {
         return Err((outcome, PostFault::CountFull));

@@ -1,10 +1,18 @@
 // Debts, claimed by connections.
-ghost use Rattle.std.specs.Prelude.{◌≡◌, ◌<◌, ◌⊎◌, Err, IfErr, IfOk, Ok, OnErr, length};
-ghost use Rattle.std.specs.Prelude.{MatchOption, MatchResult};
+ghost use Rattle.std.specs.Prelude.{◌≡◌, ◌≢◌, ◌↔◌, ◌<◌, ◌⊎◌, length};
+ghost use Rattle.std.specs.Prelude.{Err, IfErr, IfOk, IsErrOf, MatchOption, MatchResult, Ok, OnErr, Some};
 ghost use Rattle.flusher.specs.Claims.{Claims, GivesBack};
 ghost use Rattle.flusher.specs.Faults.{IsOfPeer, IsOfStation};
-ghost use Rattle.note_queue.specs.Words.{front_of};
+ghost use Rattle.flusher.specs.Refuses.{RefusesClaimOf};
+ghost use Rattle.ledger_core.specs.Index.{debt_at};
+ghost use Rattle.ledger_core.specs.State.{IsOwed};
+ghost use Rattle.note_queue.specs.Ends.{IsSameEnd};
+ghost use Rattle.note_queue.specs.Words.{front_of, tape_of};
 ghost use Rattle.peer_queue.specs.Faults.{IsClaimFault};
+ghost use Rattle.peer_queue.specs.declared.fault.StationFault.{StationFault};
+ghost use Rattle.recovery.specs.Notes.{History};
+ghost use Rattle.recovery.specs.Tape.{IsRead, StandsFor};
+ghost use Rattle.recovery.specs.Words.{IsBroken, ledger_of};
 
 use crate::front_desk::{Claimed, FrontDesk};
 use crate::tape_desk::TapeDesk;
@@ -21,7 +29,7 @@ impl<D: Disk, N: Naming> Post<D, N> {
     ///
     /// # Errors
     /// The station's, in this order: `Broken`; `NoMemory`; `Tape(Disk)` if a read failed. `Stranger`, which no run
-    /// meets, if the tape doesn't owe what the front does.
+    /// meets, if the tape is another peer's, or doesn't owe what the front does.
     pub fn claim<R: Wait>(
         &self,
         rt: &R,
@@ -91,7 +99,13 @@ impl<D: Disk, N: Naming> Post<D, N> {
     // Reads ahead from a peer's tape the debts that its front can hand out next. What can't be read stays there.
     fn read_ahead<R: Wait>(&self, rt: &R, peer: usize, tape: &mut TapeDesk<D, N>)
         requires { peer < length self.now.names }
+        ensures other { tape.old.place ≢ peer → tape.new ≡ tape.old }
+        ensures reads { IsRead (tape_of tape.old.side) (tape_of tape.new.side) }
+        ensures keeps { IsSameEnd tape.old.side tape.new.side }
     {
+        if tape.place != peer {
+            return;
+        }
         let Ok(keys) = self.front(rt, peer).keys_ahead() else {
             return;
         };
@@ -138,6 +152,7 @@ fn claim_at<N: Naming>(
     ensures given_back { OnErr result
         (GivesBack connection.0 now (front_of desk.old.seat.sender)
         (front_of desk.new.seat.sender)) }
+    ensures refuses { RefusesClaimOf peer now (front_of desk.old.seat.sender) result }
     ensures kinds { IfErr result (IsOfStation peer IsClaimFault) }
 {
     match desk.claim(connection, now) {
@@ -153,8 +168,21 @@ fn read_at<D: Disk, N: Naming>(
     key: Key,
 ) -> Result<Debt, PostFault>
     ensures key { IfOk result (λ debt. debt.0 ≡ key) }
+    ensures debt { (h : History) → StandsFor (tape_of desk.old.side) h → IfOk result
+        (λ debt. debt_at (ledger_of (tape_of desk.old.side)) key ≡ Some debt) }
+    // The tape is another peer's, or it works and doesn't owe the key.
+    ensures stranger { IsErrOf result (PostFault.Stranger peer) ↔ ((desk.old.place ≢ peer)
+        ⊎ (IsBroken (tape_of desk.old.side) → ⊥)
+        × (IsOwed (ledger_of (tape_of desk.old.side)) key → ⊥)) }
+    ensures broken { IsErrOf result (PostFault.Station peer StationFault.Broken)
+        ↔ ((desk.old.place ≡ peer) × IsBroken (tape_of desk.old.side)) }
+    ensures reads { IsRead (tape_of desk.old.side) (tape_of desk.new.side) }
+    ensures keeps { IsSameEnd desk.old.side desk.new.side }
     ensures kinds { IfErr result (IsOfPeer peer IsClaimFault) }
 {
+    if desk.place != peer {
+        return Err(PostFault::Stranger { peer });
+    }
     match desk.debt(key) {
         Ok(Some(debt)) => Ok(debt),
         Ok(None) => Err(PostFault::Stranger { peer }),

@@ -1,9 +1,10 @@
 // What the flusher asks of a post.
-ghost use Rattle.std.specs.Prelude.{◌≡◌, ◌+◌, ◌<◌, ◌^◌, length, IfErr, IfOk, OnOk};
+ghost use Rattle.std.specs.Prelude.{◌≡◌, ◌+◌, ◌<◌, ◌^◌, length, max, IfErr, IfOk, IsOk, OnOk};
 ghost use Rattle.flusher.specs.Faults.{IsDiskFault, IsFlushAllFault, IsFlushWorkingFault, IsOfPeer, IsPartFault};
 ghost use Rattle.flusher.specs.Faults.{IsRotateAllFault, IsRoundFault, IsSealFault, IsWorkingFlushFault};
 ghost use Rattle.flusher.specs.Sealed.{IsSealed};
-ghost use Rattle.recovery.specs.Words.{IsRotateFault};
+ghost use Rattle.recovery.specs.Rotates.{RefusesRotation};
+ghost use Rattle.recovery.specs.Words.{IsDue, IsRotateFault, generation_of, ledger_of};
 
 use crate::pace::{Pace, Place, Who};
 use crate::post::Intake;
@@ -22,9 +23,10 @@ impl<D: Disk, N: Naming> Post<D, N> {
     /// first flush. If a tape has no room for what pends, it is rewritten, the notes that pend included.
     ///
     /// # Errors
-    /// A station's: `Tape(TapeFull)` if what it owes is too long even for a rewritten tape, or if its tape has the
-    /// greatest generation; `Tape(Note)`, which no run meets; `NoMemory`. `NoMemory` if the copy of a note found none.
-    /// `Stranger`, which no run meets. Then the intake tape's.
+    /// A station's: `Broken`; `Tape(Disk)`, after which its front is broken, too; `Tape(TapeFull)` if what it owes is
+    /// too long even for a rewritten tape, or if its tape has the greatest generation; `Tape(Note)`, which no run
+    /// meets; `NoMemory`. `NoMemory` if the copy of a note found none. `Stranger`, which no run meets. Then the intake
+    /// tape's.
     pub fn flush_all<P: Pace, R: Wait>(&self, rt: &R, pace: &P) -> Result<Receipt, PostFault>
         ensures kinds { IfErr result (IsFlushAllFault (length self.now.names)) }
     {
@@ -169,11 +171,7 @@ impl<D: Disk, N: Naming> Post<D, N> {
         requires { peer < length self.now.names }
         ensures kinds { IfErr result IsRotateFault }
     {
-        let mut desk = self.peers[peer].tape.lock(rt);
-        if !desk.rotate_due() {
-            return Ok(None);
-        }
-        Ok(Some(desk.rotate()?))
+        self.peers[peer].tape.lock(rt).rotate_if_due()
     }
 }
 
@@ -181,6 +179,9 @@ impl<D: Disk> Intake<D> {
     // Notes that all lines are acknowledged up to the number that was read before the flushes, and makes the receipt.
     fn seal<N: Naming>(&mut self, post: &Post<D, N>, sealing: Sealing) -> Result<Receipt, TapeFault>
         requires { sealing.flushed ≡ length post.now.names }
+        ensures mark { IfOk result (λ receipt. (receipt.number ≡ sealing.number)
+            × ((ledger_of self.new.tape).mark
+            ≡ max (ledger_of self.old.tape).mark receipt.number)) }
         ensures kinds { IfErr result IsSealFault }
     {
         self.note_seen(sealing.number())?;
@@ -190,6 +191,8 @@ impl<D: Disk> Intake<D> {
     // Notes that all lines up to this number are acknowledged.
     fn note_seen(&mut self, number: u64) -> Result<(), TapeFault>
         ensures sealed { OnOk result (IsSealed number self.new.tape) }
+        ensures mark { OnOk result ((ledger_of self.new.tape).mark
+            ≡ max (ledger_of self.old.tape).mark number) }
         ensures kinds { IfErr result IsSealFault }
     {
         if number > self.tape.mark()
@@ -202,7 +205,14 @@ impl<D: Disk> Intake<D> {
     }
 
     // Rewrites the intake tape, if that is due.
-    fn rotate(&mut self) -> Result<(), TapeFault> {
+    fn rotate(&mut self) -> Result<(), TapeFault>
+        ensures not_due { (IsDue self.old.tape → ⊥) → (self.new ≡ self.old) × IsOk result }
+        ensures due { IsDue self.old.tape → OnOk result
+            (generation_of self.new.tape ≡ generation_of self.old.tape + 1) }
+        ensures refuses { IsDue self.old.tape
+            → RefusesRotation self.old.tape self.new.tape result }
+        ensures ledger { ledger_of self.new.tape ≡ ledger_of self.old.tape }
+    {
         if self.tape.rotate_due() {
             self.tape.rotate()?;
         }

@@ -79,13 +79,18 @@ impl<N: Naming> FrontDesk<N> {
     ghost use Rattle.flusher.specs.Counted.{IsCounted};
     ghost use Rattle.flusher.specs.Faults.{IsPutOffFault, IsShedFault, IsTakeFault};
     ghost use Rattle.flusher.specs.ReadAhead.{LetsGo, Uses, end_in, kept_in};
+    ghost use Rattle.flusher.specs.Refuses.{RefusesOutcome};
     ghost use Rattle.flusher.specs.Sealed.{HasSettled};
+    ghost use Rattle.flusher.specs.Takes.{AnswersLine, TakesLine};
     ghost use Rattle.ledger_core.specs.Shape.{shape_totals};
     ghost use Rattle.peer_queue.specs.Faults.{IsClaimFault, IsEndFault};
-    ghost use Rattle.peer_queue.specs.Front.{IsSame, KeepsNotes, pending_of, places_of, sent_of, settled_of};
-    ghost use Rattle.peer_queue.specs.FrontCalls.{Finishes, IsAnswered, OnlyOutbox};
+    ghost use Rattle.peer_queue.specs.Front.{IsBroken, IsSame, KeepsNotes, limits_of, pending_of, places_of, sent_of};
+    ghost use Rattle.peer_queue.specs.Front.{settled_of};
+    ghost use Rattle.peer_queue.specs.FrontCalls.{Finishes, IsAnswered, OnlyOutbox, Refuses, Sheds};
     ghost use Rattle.peer_queue.specs.Outbox.{Breaks, Learns};
-    ghost use Rattle.peer_queue.specs.DebtPlace.{IsLater, held_count, moved, place_until, released, unheld};
+    ghost use Rattle.peer_queue.specs.DebtPlace.{IsLater, held_count, least_candidate, moved, place_until, released};
+    ghost use Rattle.peer_queue.specs.DebtPlace.{unheld};
+    ghost use Rattle.peer_queue.specs.Settled.{settled_by};
 
     /// Takes a valid line, if its number is above the mark, and counts it.
     pub fn take(
@@ -101,10 +106,17 @@ impl<N: Naming> FrontDesk<N> {
         ensures marked { OnOk result (mark.new ≡ max mark.old number) }
         ensures counted { OnOk result
             (mine.new.amount ≡ mine.old.amount + (if nat_lt mark.old number then 1 else 0)) }
-        ensures unchanged { OnErr result
-            ((mark.new ≡ mark.old) × (mine.new.amount ≡ mine.old.amount)) }
+        ensures takes { OnOk result (TakesLine mark.old number line.now.token line.now.id
+            (front_of self.old.seat.sender) (front_of self.new.seat.sender)) }
+        ensures unchanged { OnErr result ((mark.new ≡ mark.old)
+            × (mine.new.amount ≡ mine.old.amount)
+            × IsSame (front_of self.old.seat.sender) (front_of self.new.seat.sender)) }
         ensures stranger { IsErrOf result TakeFault.Stranger
             ↔ (front_shape (front_of self.old.seat.sender)).mark ≢ mark.old }
+        // With its mark, the front's answer decides.
+        ensures refuses { (front_shape (front_of self.old.seat.sender)).mark ≡ mark.old
+            → AnswersLine mark.old number line.now.token line.now.id
+            (front_of self.old.seat.sender) (front_of self.new.seat.sender) result }
         ensures kinds { IfErr result IsTakeFault }
         ensures part { mine.new.parts ≡ 1 }
     {
@@ -135,13 +147,15 @@ impl<N: Naming> FrontDesk<N> {
         requires room { (tally.old.answered + 1 < 2 ^ 64) × (tally.old.dropped + 1 < 2 ^ 64) }
         ensures ok { OnOk result (Finishes connection.0 now outcome (front_of self.old.seat.sender)
             (front_of self.new.seat.sender)) }
+        ensures settled { IfOk result (λ settled.
+            settled ≡ settled_by (limits_of (front_of self.old.seat.sender)) now outcome) }
         ensures counted { IfOk result
             (λ settled. IsCounted outcome now settled mine.old mine.new) }
         ensures returned { IfErr result (λ e. e.0 ≡ outcome) }
+        ensures refuses { RefusesOutcome connection.0 now outcome (front_of self.old.seat.sender)
+            (front_of self.new.seat.sender) result }
         ensures kinds { IfErr result (λ e. IsEndFault e.1) }
-        ensures unchanged { OnErr result
-            (IsSame (front_of self.old.seat.sender) (front_of self.new.seat.sender)
-            × (mine.new ≡ mine.old)) }
+        ensures unchanged { OnErr result (mine.new ≡ mine.old) }
     {
         let FrontDesk {
             seat,
@@ -164,6 +178,10 @@ impl<N: Naming> FrontDesk<N> {
             (GivesBack connection.0 now (front_of self.old.seat.sender)
             (front_of self.new.seat.sender)) }
         ensures keeps { KeepsNotes (front_of self.old.seat.sender) (front_of self.new.seat.sender) }
+        ensures broken { IsErrOf result StationFault.Broken
+            ↔ IsBroken (front_of self.old.seat.sender) }
+        ensures no_memory { IsErrOf result StationFault.NoMemory
+            → IsSome (least_candidate now (places_of (front_of self.old.seat.sender))) }
         ensures kinds { IfErr result IsClaimFault }
         ensures uses { IfOk result (Uses self.old.ahead self.new.ahead) }
         ensures lets_go { OnErr result (LetsGo self.old.ahead self.new.ahead) }
@@ -267,6 +285,7 @@ impl<N: Naming> FrontDesk<N> {
             × (places_of (front_of self.new.seat.sender)
             ≡ moved (places_of (front_of self.old.seat.sender)) debt.0 (place_until until))) }
         ensures returned { IfErr result (λ e. e.0 ≡ debt) }
+        ensures refuses { Refuses (front_of self.old.seat.sender) connection.0 debt.0 result }
         ensures kinds { IfErr result (λ e. IsPutOffFault e.1) }
         ensures unchanged { OnErr result
             (IsSame (front_of self.old.seat.sender) (front_of self.new.seat.sender)) }
@@ -284,8 +303,12 @@ impl<N: Naming> FrontDesk<N> {
     ) -> Result<Shed, StationFault>
         requires part { mine.old.parts ≡ 1 }
         requires room { books.old + 65536 < 2 ^ 64 }
+        ensures ok { IfOk result
+            (Sheds (front_of self.old.seat.sender) (front_of self.new.seat.sender)) }
         ensures counted { IfOk result
             (λ shed. mine.new.amount ≡ mine.old.amount + length shed.keys.items) }
+        ensures broken { IsErrOf result StationFault.Broken
+            ↔ IsBroken (front_of self.old.seat.sender) }
         ensures unchanged { OnErr result
             (IsSame (front_of self.old.seat.sender) (front_of self.new.seat.sender)
             × (mine.new.amount ≡ mine.old.amount)) }

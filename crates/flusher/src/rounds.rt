@@ -140,7 +140,8 @@ impl<D: Disk, N: Naming> Post<D, N> {
         flush: &Flush,
     ) -> Result<Settlement, PostFault>
         requires { peer < length self.now.names }
-        ensures settled { IfOk result (λ settlement. settlement.place ≡ peer) }
+        ensures settled { IfOk result (λ settlement. (settlement.place ≡ peer)
+            × (settlement.count ≡ flush.now.flushed.count)) }
         ensures kinds { IfErr result (λ e. e ≡ PostFault.Stranger peer) }
     {
         let mut desk = self.peers[peer].front.lock(rt);

@@ -4,9 +4,11 @@ ghost use Rattle.std.specs.Prelude.{slice_index_or, true, false, if◌then◌els
 ghost use Rattle.std.specs.Prelude.{nat_lt, ◌≢◌, ◌↔◌, IsErr, IsErrOf, Contains};
 ghost use Rattle.flusher.specs.Faults.{IsLineFault};
 ghost use Rattle.flusher.specs.Marks.{IsRaised, IsRaisedBy, IsTakenAt, RefusesGood, RefusesLine, rises};
+ghost use Rattle.flusher.specs.Refuses.{RefusesTaking};
 ghost use Rattle.flusher.specs.Room.{IsCountFull};
+ghost use Rattle.flusher.specs.Takes.{TakesLine};
 ghost use Rattle.note_queue.specs.Words.{front_of};
-ghost use Rattle.peer_queue.specs.Front.{front_shape};
+ghost use Rattle.peer_queue.specs.Front.{IsSame};
 
 use crate::fault::TakeFault;
 use crate::front_desk::FrontDesk;
@@ -190,8 +192,11 @@ impl<D: Disk, N: Naming> Post<D, N> {
         ensures marked { OnOk result (mark.new ≡ max mark.old number) }
         ensures counted { OnOk result
             (taken.new.amount ≡ taken.old.amount + (if nat_lt mark.old number then 1 else 0)) }
-        ensures unchanged { OnErr result
-            ((mark.new ≡ mark.old) × (taken.new.amount ≡ taken.old.amount)) }
+        ensures takes { OnOk result (TakesLine mark.old number line.now.token line.now.id
+            (front_of desk.old.seat.sender) (front_of desk.new.seat.sender)) }
+        ensures unchanged { OnErr result ((mark.new ≡ mark.old)
+            × (taken.new.amount ≡ taken.old.amount)
+            × IsSame (front_of desk.old.seat.sender) (front_of desk.new.seat.sender)) }
         ensures kinds { IfErr result (IsLineFault (λ at. at ≡ peer)) }
         ensures part { taken.new.parts ≡ 1 }
     {
@@ -214,12 +219,13 @@ fn take_in<N: Naming>(
     ensures marked { OnOk result (mark.new ≡ max mark.old number) }
     ensures counted { OnOk result
         (taken.new.amount ≡ taken.old.amount + (if nat_lt mark.old number then 1 else 0)) }
-    ensures unchanged { OnErr result
-        ((mark.new ≡ mark.old) × (taken.new.amount ≡ taken.old.amount)) }
-    ensures count_full { IsErrOf result PostFault.CountFull ↔ IsCountFull books.old }
-    ensures stranger { IsErrOf result (PostFault.Stranger peer)
-        ↔ ((IsCountFull books.old → ⊥)
-        × ((front_shape (front_of desk.old.seat.sender)).mark ≢ mark.old)) }
+    ensures takes { OnOk result (TakesLine mark.old number line.now.token line.now.id
+        (front_of desk.old.seat.sender) (front_of desk.new.seat.sender)) }
+    ensures unchanged { OnErr result ((mark.new ≡ mark.old)
+        × (taken.new.amount ≡ taken.old.amount)
+        × IsSame (front_of desk.old.seat.sender) (front_of desk.new.seat.sender)) }
+    ensures refuses { RefusesTaking peer (IsCountFull books.old) mark.old
+        (front_of desk.old.seat.sender) result }
     ensures kinds { IfErr result (IsLineFault (λ at. at ≡ peer)) }
     ensures part { taken.new.parts ≡ 1 }
 {

@@ -47,29 +47,39 @@ impl Flush {
 }
 
 impl<D: Disk, N: Naming> TapeDesk<D, N> {
-    ghost use Rattle.std.specs.Prelude.{◌≢◌, ◌-◌, ◌^◌, ◌↔◌, ◌⊎◌, ℕ, None};
-    ghost use Rattle.std.specs.Prelude.{IfErr, IfOk, IsErrOf, IsSome, IsTrue, OnOk, map};
+    ghost use Rattle.std.specs.Prelude.{◌≢◌, ◌↔◌, ℕ, None, Ok};
+    ghost use Rattle.std.specs.Prelude.{IfErr, IfOk, IfSome, IsErrOf, IsOk, IsSome, OnOk, map};
     ghost use Rattle.std.specs.List.{Contains};
-    ghost use Rattle.flusher.specs.Flushes.{IsFlushOf};
-    ghost use Rattle.flusher.specs.Room.{TapeHasNoRoom};
+    ghost use Rattle.crossbeam_queue.specs.Passes.{view};
+    ghost use Rattle.flusher.specs.Flushes.{Acknowledges, IsFlushOf, RefusesAnew};
+    ghost use Rattle.flusher.specs.Room.{HasNoRoomAnew, TapeHasNoRoom};
     ghost use Rattle.ledger_core.specs.Index.{debt_at};
     ghost use Rattle.ledger_core.specs.State.{IsOwed};
-    ghost use Rattle.note_queue.specs.Calls.{TakesMore};
+    ghost use Rattle.note_queue.specs.Calls.{IsNotCalled, TakesMore};
     ghost use Rattle.note_queue.specs.Ends.{IsSameEnd, KeepsFor};
-    ghost use Rattle.note_queue.specs.Relay.{IsAt};
+    ghost use Rattle.note_queue.specs.Owns.{LeavesFirst};
+    ghost use Rattle.note_queue.specs.Relay.{IsAt, Relayed, WasSeen};
     ghost use Rattle.note_queue.specs.Words.{kept_of, tape_of};
+    ghost use Rattle.recovery.specs.Flushes.{RefusesFlush};
     ghost use Rattle.recovery.specs.Notes.{History};
-    ghost use Rattle.recovery.specs.Tape.{StandsFor};
+    ghost use Rattle.recovery.specs.Rotates.{RefusesRotation};
+    ghost use Rattle.recovery.specs.Tape.{IsRead, StandsFor};
     ghost use Rattle.recovery.specs.Texts.{HasLengths, debts_at, lengths_of};
-    ghost use Rattle.recovery.specs.Words.{IsBroken, IsDebtFault, IsDue, IsFlushFault, IsFull, IsRotateFault};
-    ghost use Rattle.recovery.specs.Words.{OneHasRisen, RotatesTooLong, faults_of, generation_of, ledger_of};
+    ghost use Rattle.recovery.specs.Words.{IsBroken, IsDebtFault, IsDue, IsRotateFault, OneHasRisen, faults_of};
+    ghost use Rattle.recovery.specs.Words.{generation_of, ledger_of, pending_of};
 
     /// Puts on the tape what was sent ([`Side::pull`]). It calls no disk.
+    ///
+    /// # Errors
+    /// Why the tape refuses the note that is kept now: `Broken`; `Note`, which no run meets; `PendingFull`; `NoMemory`.
     pub fn pull<R: Wait>(&mut self, rt: &R, queue: &NoteQueue) -> Result<(), TapeFault>
         requires { IsAt queue.now (taking self.old.side) }
         ensures takes { TakesMore (taking self.old.side) (taking self.new.side) }
         ensures ok { OnOk result (kept_of self.new.side ≡ None) }
+        // At one moment of the call the queue was empty, and the pass had taken what it has now.
+        ensures empty { OnOk result (WasSeen Relayed 0 (view (taking self.new.side))) }
         ensures err { IfErr result (KeepsFor self.new.side) }
+        ensures keeps { IsNotCalled (tape_of self.old.side) (tape_of self.new.side) }
     {
         let TapeDesk { side, .. } = self;
         side.pull(rt, queue)
@@ -77,12 +87,19 @@ impl<D: Disk, N: Naming> TapeDesk<D, N> {
 
     /// Puts the notes that pend on the disks. If there is no room for them after what is there, much of which may be
     /// notes of debts that have long ended, the tape is rewritten, the notes that pend included.
+    ///
+    /// # Errors
+    /// `Broken`; `TapeFull` if there is no room in a rewritten tape, or the generation is the greatest; `NoMemory`;
+    /// `Disk`, which breaks the tape.
     pub fn flush(&mut self) -> Result<Flush, TapeFault>
         ensures ok { IfOk result (IsFlushOf (tape_of self.new.side)) }
-        ensures full { IsErrOf result TapeFault.TapeFull
-            → TapeHasNoRoom (tape_of self.old.side) }
+        ensures acknowledges { (h : History) → StandsFor (tape_of self.old.side) h
+            → Acknowledges h (tape_of self.old.side) (tape_of self.new.side) result }
+        ensures moments { LeavesFirst (view (taking self.old.side)).got_on
+            (view (taking self.old.side)).got (tape_of self.old.side) (tape_of self.new.side) }
+        ensures refuses { RefusesAnew (TapeHasNoRoom (tape_of self.old.side))
+            (tape_of self.old.side) (tape_of self.new.side) result }
         ensures keeps { IsSameEnd self.old.side self.new.side }
-        ensures kinds { IfErr result IsFlushFault }
     {
         match self.flush_once() {
             Err(TapeFault::TapeFull) => self.rotate_full(),
@@ -93,10 +110,16 @@ impl<D: Disk, N: Naming> TapeDesk<D, N> {
     // Flushes the tape, if there is room for what pends.
     fn flush_once(&mut self) -> Result<Flush, TapeFault>
         ensures ok { IfOk result (IsFlushOf (tape_of self.new.side)) }
-        ensures full { IsErrOf result TapeFault.TapeFull → IsFull (tape_of self.old.side)
-            × (tape_of self.new.side ≡ tape_of self.old.side) }
+        ensures acknowledges { (h : History) → StandsFor (tape_of self.old.side) h
+            → Acknowledges h (tape_of self.old.side) (tape_of self.new.side) result }
+        ensures moments { LeavesFirst (view (taking self.old.side)).got_on
+            (view (taking self.old.side)).got (tape_of self.old.side) (tape_of self.new.side) }
+        ensures empty { pending_of (tape_of self.old.side) ≡ 0
+            → tape_of self.new.side ≡ tape_of self.old.side }
+        ensures empty_ok { pending_of (tape_of self.old.side) ≡ 0
+            → (IsBroken (tape_of self.old.side) → ⊥) → IsOk result }
+        ensures refuses { RefusesFlush (tape_of self.old.side) (tape_of self.new.side) result }
         ensures keeps { IsSameEnd self.old.side self.new.side }
-        ensures kinds { IfErr result IsFlushFault }
     {
         let TapeDesk { side, .. } = self;
         let flushed = side.flush()?;
@@ -109,11 +132,13 @@ impl<D: Disk, N: Naming> TapeDesk<D, N> {
     // Rewrites the tape, instead of a flush for which there is no room. The faults are those of a flush.
     fn rotate_full(&mut self) -> Result<Flush, TapeFault>
         ensures ok { IfOk result (IsFlushOf (tape_of self.new.side)) }
-        ensures full { IsErrOf result TapeFault.TapeFull
-            → (generation_of (tape_of self.old.side) ≡ 2 ^ 64 - 1)
-            ⊎ RotatesTooLong (tape_of self.old.side) }
+        ensures acknowledges { (h : History) → StandsFor (tape_of self.old.side) h
+            → Acknowledges h (tape_of self.old.side) (tape_of self.new.side) result }
+        ensures moments { LeavesFirst (view (taking self.old.side)).got_on
+            (view (taking self.old.side)).got (tape_of self.old.side) (tape_of self.new.side) }
+        ensures refuses { RefusesAnew (HasNoRoomAnew (tape_of self.old.side))
+            (tape_of self.old.side) (tape_of self.new.side) result }
         ensures keeps { IsSameEnd self.old.side self.new.side }
-        ensures kinds { IfErr result IsFlushFault }
     {
         match self.rotate() {
             Err(TapeFault::GenerationFull) => Err(TapeFault::TapeFull),
@@ -121,29 +146,50 @@ impl<D: Disk, N: Naming> TapeDesk<D, N> {
         }
     }
 
-    /// Whether a rotation is due.
-    pub fn rotate_due(&self) -> bool
-        ensures { IsTrue result ↔ IsDue (tape_of self.now.side) }
+    /// Rewrites the tape, if that is due ([`TapeDesk::rotate`]). `None` if it is not, and nothing has changed.
+    ///
+    /// # Errors
+    /// Those of `rotate`.
+    pub fn rotate_if_due(&mut self) -> Result<Option<Flush>, TapeFault>
+        ensures not_due { (IsDue (tape_of self.old.side) → ⊥)
+            → (result ≡ Ok None) × (self.new ≡ self.old) }
+        ensures due { IsDue (tape_of self.old.side) → IfOk result (λ rotated. IsSome rotated
+            × (generation_of (tape_of self.new.side)
+            ≡ generation_of (tape_of self.old.side) + 1)) }
+        ensures some { IfOk result (λ rotated. IfSome rotated (IsFlushOf (tape_of self.new.side))) }
+        ensures refuses { IsDue (tape_of self.old.side)
+            → RefusesRotation (tape_of self.old.side) (tape_of self.new.side) result }
+        ensures keeps { IsSameEnd self.old.side self.new.side }
+        ensures kinds { IfErr result IsRotateFault }
     {
-        self.side.rotate_due()
+        if !self.side.rotate_due() {
+            return Ok(None);
+        }
+        Ok(Some(self.rotate()?))
     }
 
     /// Rewrites the tape, the notes that pend included. A flush follows, which calls no disk, and returns what is on
     /// the tape.
+    ///
+    /// # Errors
+    /// The tape's, in its order: `Broken`; `GenerationFull`; `TapeFull`; `NoMemory`; `Disk`, which breaks the tape.
     pub fn rotate(&mut self) -> Result<Flush, TapeFault>
         ensures ok { IfOk result (IsFlushOf (tape_of self.new.side)) }
-        ensures generation_full { IsErrOf result TapeFault.GenerationFull
-            → generation_of (tape_of self.old.side) ≡ 2 ^ 64 - 1 }
-        ensures full { IsErrOf result TapeFault.TapeFull → RotatesTooLong (tape_of self.old.side) }
+        ensures acknowledges { (h : History) → StandsFor (tape_of self.old.side) h
+            → Acknowledges h (tape_of self.old.side) (tape_of self.new.side) result }
+        ensures moments { LeavesFirst (view (taking self.old.side)).got_on
+            (view (taking self.old.side)).got (tape_of self.old.side) (tape_of self.new.side) }
+        ensures generation { OnOk result (generation_of (tape_of self.new.side)
+            ≡ generation_of (tape_of self.old.side) + 1) }
+        ensures refuses { RefusesRotation (tape_of self.old.side) (tape_of self.new.side) result }
         ensures keeps { IsSameEnd self.old.side self.new.side }
-        ensures kinds { IfErr result IsRotateFault }
     {
         let TapeDesk { side, .. } = self;
         side.rotate()?;
-        // Nothing pends now, so only a broken tape would refuse this.
+        // Nothing pends now, and the tape works: it cannot refuse this.
         match self.flush_once() {
             Ok(flush) => Ok(flush),
-            Err(_) => Err(TapeFault::Broken),
+            Err(_) => unreachable!(),
         }
     }
 
@@ -160,6 +206,7 @@ impl<D: Disk, N: Naming> TapeDesk<D, N> {
         ensures cause { (h : History) → StandsFor (tape_of self.old.side) h
             → IsErrOf result TapeFault.Disk → OneHasRisen (faults_of (tape_of self.old.side))
             (faults_of (tape_of self.new.side)) }
+        ensures reads { IsRead (tape_of self.old.side) (tape_of self.new.side) }
         ensures keeps { IsSameEnd self.old.side self.new.side }
     {
         let TapeDesk { side, .. } = self;
@@ -179,6 +226,7 @@ impl<D: Disk, N: Naming> TapeDesk<D, N> {
         ensures cause { (h : History) → StandsFor (tape_of self.old.side) h
             → IsErrOf result TapeFault.Disk → OneHasRisen (faults_of (tape_of self.old.side))
             (faults_of (tape_of self.new.side)) }
+        ensures reads { IsRead (tape_of self.old.side) (tape_of self.new.side) }
         ensures keeps { IsSameEnd self.old.side self.new.side }
         ensures kinds { IfErr result IsDebtFault }
     {

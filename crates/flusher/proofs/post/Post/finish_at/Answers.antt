@@ -1,0 +1,15 @@
+use Rattle.std.proofs.lemmas.Result.{on_err_weaker, on_ok_weaker}
+use Rattle.note_queue.specs.Words.{front_of}
+use Rattle.flusher.proofs.post.Post.finish_at.Goals as goal
+
+pub returns-clause-ok : goal.returns-clause-ok
+returns-clause-ok g c =
+    let finished = c.finish_counted-finished in
+    on_ok_weaker finished.result (λ done. (front_of finished.new.desk.seat.sender, done, c.send.ensures.sends))
+    finished.ensures.ok
+
+pub returns-clause-same : goal.returns-clause-same
+returns-clause-same g c =
+    let finished = c.finish_counted-finished in
+    on_err_weaker finished.result (λ same. (front_of finished.new.desk.seat.sender, same, c.send.ensures.sends))
+    finished.ensures.same
