@@ -93,12 +93,7 @@ impl<F: AllocGlobal + Files<File = File>, W: Write, N: Naming> IntakeWorker<'_, 
         for _ in rt.forever() {
             let batch = self.take_batch(rt, post, signals, funnel)?;
             self.order(signals, &batch, &mut ordered)?;
-            // A batch that is not full shows that no more lines are there now.
-            let most = if batch.count < BATCH_MAX_LINES {
-                0
-            } else {
-                AHEAD_MAX_BATCHES
-            };
+            let most = if batch.is_last { 0 } else { AHEAD_MAX_BATCHES };
             if !self.acknowledge(rt, signals, &mut ordered, most)? {
                 return Ok(());
             }
