@@ -4,7 +4,7 @@ ghost use Rattle.std.specs.List.{All};
 ghost use Rattle.flusher.specs.Post.{IsFor, names_of};
 ghost use Rattle.flusher.specs.Sealed.{IsFlushed};
 
-use crate::shared::{DebtEnding, fused_intake, fused_peer, fused_second_peer, outcome};
+use crate::shared::{DebtEnding, fused_intake, fused_peer, fused_second_peer, intake_on, outcome};
 use conn_core::CxnId;
 use disk_model::{Disk, FuseDisk, MemDisk};
 use flusher::{
@@ -497,5 +497,93 @@ fn a_rotation_that_fails_breaks_its_peer_and_loses_nothing(rt: HostRuntime) -> R
         let failed = failed_after(&rt, alloc, calls)?;
         assert_eq!(rt; failed, AFTER_FAILURE, "the call after {calls}");
     }
+    Ok(())
+}
+
+// How many octets the disks of the intake's tape hold, and the mark of the tape that is opened from them.
+#[derive(Clone, Copy, Debug, PartialEq, Eq)]
+struct IntakeDisks {
+    octets: (u64, u64),
+    mark: u64,
+}
+
+// Acknowledges lines one by one, which name no peer, and asks for a rotation; if memory for it is refused, once more.
+fn acknowledge_each<N: Naming, R: Wait>(
+    rt: &R,
+    post: &Post<FuseDisk<MemDisk>, N>,
+    lines: &mut IntakeShare<N>,
+    count: u64,
+) -> Result<(), Fail> {
+    for _ in 0..count {
+        post.take_line(rt, b"a/1 <x@y> nobody", lines)?;
+        post.flush_all(rt, &Free)?;
+    }
+    post.rotate_all(rt)?;
+    post.rotate_all(rt)?;
+    Ok(())
+}
+
+fn run_acknowledging<N: Naming, R: Wait>(
+    rt: &R,
+    alloc: Global,
+    peers: Vec<PostPeer<FuseDisk<MemDisk>>>,
+    intake: Tape<FuseDisk<MemDisk>>,
+    blanks: Blanks,
+    count: u64,
+) -> Result<IntakeDisks, Fail>
+    requires names { N.names ≡ names_of blanks peers.items }
+    requires blanks { IsFor (length peers.items) blanks }
+    requires flushed { All (λ p. IsFlushed p.station) peers.items }
+{
+    let (post, mut lines, first, second, third) = Post::<FuseDisk<MemDisk>, N>::new(
+        alloc, peers, intake, blanks,
+    )?;
+    acknowledge_each(rt, &post, &mut lines, count)?;
+    let Ok(closed) = post.close(rt, lines, first, second, third) else {
+        return Err(Fail::from("memory"));
+    };
+    let (a, b) = closed.intake.into_disks();
+    let octets = (a.len(), b.len());
+    let tape = intake_on(alloc, (a.into_inner(), b.into_inner()))?;
+    Ok(IntakeDisks {
+        octets,
+        mark: tape.mark(),
+    })
+}
+
+fn acknowledging_on_disks<R: Wait>(
+    rt: &R,
+    alloc: Global,
+    peer: PostPeer<FuseDisk<MemDisk>>,
+    intake: Tape<FuseDisk<MemDisk>>,
+    count: u64,
+) -> Result<IntakeDisks, Fail>
+    requires { IsFlushed peer.station }
+{
+    let peers = vec![in alloc; peer]?;
+    let blanks = Blanks::new(alloc, 1)?;
+    run_acknowledging::<Brand, R>(rt, alloc, peers, intake, blanks, count)
+}
+
+fn acknowledged<R: Wait>(rt: &R, alloc: Global, count: u64) -> Result<IntakeDisks, Fail> {
+    let peer = fused_peer(alloc, b"p", UNLIMITED, u64::MAX)?;
+    acknowledging_on_disks(rt, alloc, peer, fused_intake(alloc)?, count)
+}
+
+// Each line takes a record of 14 octets, and the gate at the end one. A tape that is longer than 65,536 octets is
+// rewritten: the second disk has a Base of 54 octets, and the gate.
+#[test]
+fn the_tape_of_the_intake_is_rewritten_once_it_is_long(rt: HostRuntime) -> Result<(), Fail> {
+    let alloc = rt.alloc();
+    let left = IntakeDisks {
+        octets: (65_535, 0),
+        mark: 4_681,
+    };
+    assert_eq!(rt; acknowledged(&rt, alloc, 4_681)?, left);
+    let rewritten = IntakeDisks {
+        octets: (65_549, 55),
+        mark: 4_682,
+    };
+    assert_eq!(rt; acknowledged(&rt, alloc, 4_682)?, rewritten);
     Ok(())
 }

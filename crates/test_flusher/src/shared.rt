@@ -212,7 +212,8 @@ pub(crate) fn flaky_intake(alloc: Global) -> Result<Tape<FlakyDisk<MemDisk>>, Fa
     intake_on(alloc, (flaky(alloc, u64::MAX), flaky(alloc, u64::MAX)))
 }
 
-fn intake_on<D: Disk + Drop>(alloc: Global, (a, b): (D, D)) -> Result<Tape<D>, Fail> {
+// An intake tape on these disks.
+pub(crate) fn intake_on<D: Disk + Drop>(alloc: Global, (a, b): (D, D)) -> Result<Tape<D>, Fail> {
     match Tape::open(alloc, a, b) {
         Ok(tape) => Ok(tape),
         Err(refused) => Err(Fail::from(refused.fault)),

@@ -32,11 +32,11 @@ fn what_was_settled_is_on_the_tape(rt: HostRuntime) -> Result<(), Fail> {
     let queued = joined.queued.len() as u64 + u64::from(joined.kept.is_some());
     assert_eq!(rt; SETTLED_LINES <= told && told <= LINES, true);
     assert_eq!(rt; joined.front.totals().taken, LINES);
+    // What was sent is on the tape, kept beside it, or in the queue.
+    let on_tape = joined.tape.totals().taken;
+    assert_eq!(rt; on_tape.checked_add(queued), Some(joined.front.sent()));
     let taken = taken_on_disks(alloc, joined.tape)?;
-    assert_eq!(rt;
-        told <= taken && taken <= LINES && queued <= LINES - taken,
-        true
-    );
+    assert_eq!(rt; told <= taken && taken <= on_tape, true);
     Ok(())
 }
 
