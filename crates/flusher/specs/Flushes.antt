@@ -21,7 +21,8 @@ module _ {D : Type 0} {g : Ghosts D} where
     pub none_pends : pending_of tape ≡ 0
 
   -- What comes of the flush of a tape that stood for this history, be it rewritten or not.
-  pub record Acknowledges (h : History) (old new : Tape D g) (result : Result Flush TapeFault) : Type 0 where
+  pub record Acknowledges {T : Type 0} (h : History) (old new : Tape D g) (result : Result T TapeFault)
+      : Type 0 where
     -- all its notes are acknowledged
     pub ok : OnOk result (StandsFor new (flushed h))
     pub stays : OnErr result (StandsFor new h)
@@ -30,8 +31,8 @@ module _ {D : Type 0} {g : Ghosts D} where
     pub cause : IsErrOf result Disk → OneHasRisen (faults_of old) (faults_of new)
 
   -- When a flush is refused that rewrites the tape if there is no room, in the order in which it is tried, and what it
-  -- leaves. `NoRoom`: there is none, nor would there be anew.
-  pub record RefusesAnew (NoRoom : Type 0) (old new : Tape D g) (result : Result Flush TapeFault) : Type 0 where
+  -- leaves. `NoRoom` says when it is refused for want of room.
+  pub record RefusesOrRewrites (NoRoom : Type 0) (old new : Tape D g) (result : Result Flush TapeFault) : Type 0 where
     pub broken : IsErrOf result Broken ↔ IsBroken old
     pub full : IsErrOf result TapeFull ↔ ((IsBroken old → ⊥) × NoRoom)
     -- all but Disk change nothing

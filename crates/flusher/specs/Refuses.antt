@@ -42,13 +42,20 @@ pub record RefusesOutcomeOf (peer connection now : ℕ) (outcome : Outcome) (fro
   pub pending_full : TellsOf peer result (Tape PendingFull)
       ↔ (IsEnded (settled_by (limits_of front) now outcome) × MeetsFull front connection (key_in outcome))
 
--- when a claim is refused at this peer's front
-pub record RefusesClaimOf {A : Type 0} (peer now : ℕ) (front : Front) (result : Result A PostFault) : Type 0 where
-  pub broken : IsErrOf result (Station peer Broken) ↔ IsBroken front
-  pub no_memory : IsErrOf result (Station peer NoMemory) → IsSome (least_candidate now (places_of front))
+-- when a claim is refused at a front; a broken front is as it was
+pub record RefusesClaim {A : Type 0} (now : ℕ) (old new : Front) (result : Result A StationFault) : Type 0 where
+  pub broken : IsErrOf result Broken ↔ IsBroken old
+  pub no_memory : IsErrOf result NoMemory → IsSome (least_candidate now (places_of old))
+  pub unchanged : IsErrOf result Broken → places_of new ≡ places_of old
 
--- When a line is refused at this peer's front, in the order in which it is tried: if the tally of what was taken is
--- full, or if the front's mark is not the intake's, or if the front is broken.
+-- the same at this peer's front
+pub record RefusesClaimOf {A : Type 0} (peer now : ℕ) (old new : Front) (result : Result A PostFault) : Type 0 where
+  pub broken : IsErrOf result (Station peer Broken) ↔ IsBroken old
+  pub no_memory : IsErrOf result (Station peer NoMemory) → IsSome (least_candidate now (places_of old))
+  pub unchanged : IsErrOf result (Station peer Broken) → places_of new ≡ places_of old
+
+-- When a line is refused at this peer's front for one of these reasons, in the order in which they are tried: the tally
+-- of what was taken is full; the front's mark is not the intake's; the front is broken.
 pub record RefusesTaking (peer : ℕ) (IsFull : Type 0) (mark : ℕ) (front : Front) (result : Result (Unit {0}) PostFault)
     : Type 0 where
   pub count_full : IsErrOf result CountFull ↔ IsFull
@@ -56,6 +63,6 @@ pub record RefusesTaking (peer : ℕ) (IsFull : Type 0) (mark : ℕ) (front : Fr
   pub broken : IsErrOf result (Station peer Broken)
       ↔ ((IsFull → ⊥) × ((front_shape front).mark ≡ mark) × IsBroken front)
 
--- this was done to a front, and then notes of it were sent
+-- this was done to a front, and then some of its notes, or none, were sent
 abbrev pub ThenSent : (Front → Type 0) → Front → Type 0
 ThenSent Done new = (between : Front) × Done between × IsOnlySent between new

@@ -19,11 +19,11 @@ module _ {D : Type 0} {g : Ghosts D} where
     pub same : IsSame station left
     pub anew : (generation_of left ≡ 2 ^ 64 - 1) ⊎ RotatesTooLong (tape_of left)
 
-  -- there is no room for it even if it is rewritten, or no generation
-  abbrev pub HasNoRoomAnew : Tape D g → Type 0
-  HasNoRoomAnew tape = (tape_generation tape ≡ 2 ^ 64 - 1) ⊎ RotatesTooLong tape
+  -- what a rotation would write is too long, or the generation is the greatest
+  abbrev pub HasNoRoomRewritten : Tape D g → Type 0
+  HasNoRoomRewritten tape = (tape_generation tape ≡ 2 ^ 64 - 1) ⊎ RotatesTooLong tape
 
-  -- The same of a tape, which a refused flush leaves as it is.
+  -- There is no room for what pends, neither after what is on the tape nor if it is rewritten.
   pub record TapeHasNoRoom (tape : Tape D g) : Type 0 where
     pub full : IsFull tape
-    pub anew : HasNoRoomAnew tape
+    pub anew : HasNoRoomRewritten tape

@@ -10,7 +10,7 @@ use Rattle.peer_queue.specs.declared.limits.Owed.{Owed}
 use Rattle.flusher.specs.declared.fault.TakeFault.{TakeFault}
 use Rattle.flusher.specs.declared.fault.TakeFault.TheVariants.{Station as OfStation}
 
--- A line above the mark is owed from now on, by this note, and is ready. Any other was taken before.
+-- A line above the mark is owed from now on, by this note, and is ready. Any other changes nothing.
 pub record TakesLine (mark number : ℕ) (token id : List ℕ) (old new : Front) : Type 0 where
   pub owes : mark < number → Notes old new (Owe number token id ∷ [])
       × (places_of new ≡ with_place (places_of old) number Ready)
@@ -24,6 +24,6 @@ taken_by (Err fault) = Err (OfStation fault)
 -- the answer is the front's, which had this mark, and refuses the line only as `owe` does
 pub record AnswersLine (mark number : ℕ) (token id : List ℕ) (old new : Front) (result : Result (Unit {0}) TakeFault)
     : Type 0 where
-  pub told : Result Owed StationFault
-  pub is : result ≡ taken_by told
-  pub refuses : RefusesOwe mark number (Owe number token id) old new told
+  pub answer : Result Owed StationFault
+  pub is : result ≡ taken_by answer
+  pub refuses : RefusesOwe mark number (Owe number token id) old new answer

@@ -142,7 +142,7 @@ impl<D: Disk, N: Naming> Post<D, N> {
     ) -> Result<(), PostFault>
         requires { peer < length self.now.names }
         ensures sends { IsOnlySent (front_of desk.old.seat.sender) (front_of desk.new.seat.sender) }
-        // All is sent, or at one moment of the call the queue was full, and the pass had sent what it has now.
+        // All is sent, or the queue was full: [`FrontDesk::send`], under the rule that a post's queues have.
         ensures ok { OnOk result ((unsent_of (front_of desk.new.seat.sender) ≡ [])
             ⊎ WasSeen Relayed 1024 (view (sending desk.new.seat.sender))) }
         ensures stranger { IsErrOf result (PostFault.Stranger peer) ↔ desk.old.seat.place ≢ peer }
@@ -156,8 +156,7 @@ impl<D: Disk, N: Naming> Post<D, N> {
         if desk.seat.place != peer {
             return Err(PostFault::Stranger { peer });
         }
-        let FrontDesk { seat, .. } = desk;
-        match seat.sender.send(rt, &self.peers[peer].queue) {
+        match desk.send(rt, &self.peers[peer].queue) {
             Ok(()) => Ok(()),
             Err(_) => Err(PostFault::NoMemory),
         }
@@ -293,7 +292,7 @@ impl<D: Disk, N: Naming> Post<D, N> {
         ensures ok { OnOk result (ThenSent
             (Finishes connection.0 now outcome (front_of desk.old.seat.sender))
             (front_of desk.new.seat.sender)) }
-        ensures same { OnErr result (ThenSent (IsSame (front_of desk.old.seat.sender))
+        ensures front { OnErr result (ThenSent (IsSame (front_of desk.old.seat.sender))
             (front_of desk.new.seat.sender)) }
         ensures refuses { IsErrAnd result (λ e. e.1 ≡ PostFault.CountFull)
             ⊎ RefusesOutcomeOf peer connection.0 now outcome (front_of desk.old.seat.sender)
@@ -326,7 +325,7 @@ impl<D: Disk, N: Naming> Post<D, N> {
     ) -> Result<Settled, (Outcome, PostFault)>
         ensures ok { OnOk result (Finishes connection.0 now outcome
             (front_of desk.old.seat.sender) (front_of desk.new.seat.sender)) }
-        ensures same { OnErr result
+        ensures front { OnErr result
             (IsSame (front_of desk.old.seat.sender) (front_of desk.new.seat.sender)) }
         ensures refuses { IsErrAnd result (λ e. e.1 ≡ PostFault.CountFull)
             ⊎ RefusesOutcomeOf peer connection.0 now outcome (front_of desk.old.seat.sender)

@@ -99,7 +99,7 @@ impl<D: Disk, N: Naming> Post<D, N> {
     // Reads ahead from a peer's tape the debts that its front can hand out next. What can't be read stays there.
     fn read_ahead<R: Wait>(&self, rt: &R, peer: usize, tape: &mut TapeDesk<D, N>)
         requires { peer < length self.now.names }
-        ensures other { tape.old.place ≢ peer → tape.new ≡ tape.old }
+        ensures unchanged { tape.old.place ≢ peer → tape.new ≡ tape.old }
         ensures reads { IsRead (tape_of tape.old.side) (tape_of tape.new.side) }
         ensures keeps { IsSameEnd tape.old.side tape.new.side }
     {
@@ -152,7 +152,8 @@ fn claim_at<N: Naming>(
     ensures given_back { OnErr result
         (GivesBack connection.0 now (front_of desk.old.seat.sender)
         (front_of desk.new.seat.sender)) }
-    ensures refuses { RefusesClaimOf peer now (front_of desk.old.seat.sender) result }
+    ensures refuses { RefusesClaimOf peer now (front_of desk.old.seat.sender)
+        (front_of desk.new.seat.sender) result }
     ensures kinds { IfErr result (IsOfStation peer IsClaimFault) }
 {
     match desk.claim(connection, now) {

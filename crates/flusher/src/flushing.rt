@@ -206,8 +206,8 @@ impl<D: Disk> Intake<D> {
 
     // Rewrites the intake tape, if that is due.
     fn rotate(&mut self) -> Result<(), TapeFault>
-        ensures not_due { (IsDue self.old.tape → ⊥) → (self.new ≡ self.old) × IsOk result }
-        ensures due { IsDue self.old.tape → OnOk result
+        ensures unchanged { (IsDue self.old.tape → ⊥) → (self.new ≡ self.old) × IsOk result }
+        ensures generation { IsDue self.old.tape → OnOk result
             (generation_of self.new.tape ≡ generation_of self.old.tape + 1) }
         ensures refuses { IsDue self.old.tape
             → RefusesRotation self.old.tape self.new.tape result }

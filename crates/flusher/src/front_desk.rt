@@ -15,13 +15,15 @@ use crate::tally::{Books, Tally};
 use crate::tape_desk::Flush;
 use crate::{Naming, Reported};
 use conn_core::{CxnId, Outcome};
+use crossbeam_queue::RuledArrayQueue;
 use funnel::FunnelLine;
-use ledger_core::{Debt, Key, Totals};
-use note_queue::Sender;
+use ledger_core::{Debt, Key, Note, Totals};
+use note_queue::{PassLog, Relays, Sender};
 use peer_queue::{Owed, Settled, Shed, StationFault};
 use recovery::PENDING_MAX_NOTES;
 use std::alloc::AllocError;
 use std::marker::PhantomData;
+use std::sync::Wait;
 use std::sync::ledger::Share;
 
 /// A front with the pass by which it sends.
@@ -69,27 +71,30 @@ pub(crate) enum Claimed {
 }
 
 impl<N: Naming> FrontDesk<N> {
-    ghost use Rattle.std.specs.Prelude.{◌≢◌, ◌-◌, ◌<◌, ◌≤◌, ◌^◌, ◌↔◌};
+    ghost use Rattle.std.specs.Prelude.{◌≢◌, ◌⊎◌, ◌-◌, ◌<◌, ◌≤◌, ◌^◌, ◌↔◌, []};
     ghost use Rattle.std.specs.Prelude.{true, false, if◌then◌else◌, max, min};
     ghost use Rattle.std.specs.Prelude.{IfErr, IfOk, IfSome, IsErrOf, IsNone, IsSome, IsTrue, OnErr, OnOk};
     ghost use Rattle.std.specs.Prelude.{filter, length, nat_lt, take};
     ghost use Rattle.std.specs.List.{All};
+    ghost use Rattle.crossbeam_queue.specs.Passes.{ruled_capacity, view};
     ghost use Rattle.flusher.specs.Ahead.{gone_on, kept_with, wanted_behind};
     ghost use Rattle.flusher.specs.Claims.{Claims, GivesBack, Unclaims};
     ghost use Rattle.flusher.specs.Counted.{IsCounted};
     ghost use Rattle.flusher.specs.Faults.{IsPutOffFault, IsShedFault, IsTakeFault};
     ghost use Rattle.flusher.specs.ReadAhead.{LetsGo, Uses, end_in, kept_in};
-    ghost use Rattle.flusher.specs.Refuses.{RefusesOutcome};
+    ghost use Rattle.flusher.specs.Refuses.{RefusesClaim, RefusesOutcome};
     ghost use Rattle.flusher.specs.Sealed.{HasSettled};
     ghost use Rattle.flusher.specs.Takes.{AnswersLine, TakesLine};
     ghost use Rattle.ledger_core.specs.Shape.{shape_totals};
+    ghost use Rattle.note_queue.specs.Noted.{IsOnlySent};
+    ghost use Rattle.note_queue.specs.Relay.{IsAt, WasSeen};
+    ghost use Rattle.note_queue.specs.Sending.{SendsMore};
     ghost use Rattle.peer_queue.specs.Faults.{IsClaimFault, IsEndFault};
     ghost use Rattle.peer_queue.specs.Front.{IsBroken, IsSame, KeepsNotes, limits_of, pending_of, places_of, sent_of};
-    ghost use Rattle.peer_queue.specs.Front.{settled_of};
+    ghost use Rattle.peer_queue.specs.Front.{settled_of, unsent_of};
     ghost use Rattle.peer_queue.specs.FrontCalls.{Finishes, IsAnswered, OnlyOutbox, Refuses, Sheds};
     ghost use Rattle.peer_queue.specs.Outbox.{Breaks, Learns};
-    ghost use Rattle.peer_queue.specs.DebtPlace.{IsLater, held_count, least_candidate, moved, place_until, released};
-    ghost use Rattle.peer_queue.specs.DebtPlace.{unheld};
+    ghost use Rattle.peer_queue.specs.DebtPlace.{IsLater, held_count, moved, place_until, released, unheld};
     ghost use Rattle.peer_queue.specs.Settled.{settled_by};
 
     /// Takes a valid line, if its number is above the mark, and counts it.
@@ -178,10 +183,8 @@ impl<N: Naming> FrontDesk<N> {
             (GivesBack connection.0 now (front_of self.old.seat.sender)
             (front_of self.new.seat.sender)) }
         ensures keeps { KeepsNotes (front_of self.old.seat.sender) (front_of self.new.seat.sender) }
-        ensures broken { IsErrOf result StationFault.Broken
-            ↔ IsBroken (front_of self.old.seat.sender) }
-        ensures no_memory { IsErrOf result StationFault.NoMemory
-            → IsSome (least_candidate now (places_of (front_of self.old.seat.sender))) }
+        ensures refuses { RefusesClaim now (front_of self.old.seat.sender)
+            (front_of self.new.seat.sender) result }
         ensures kinds { IfErr result IsClaimFault }
         ensures uses { IfOk result (Uses self.old.ahead self.new.ahead) }
         ensures lets_go { OnErr result (LetsGo self.old.ahead self.new.ahead) }
@@ -319,6 +322,29 @@ impl<N: Naming> FrontDesk<N> {
         let shed = seat.sender.shed()?;
         books.count(mine, dropped, shed.keys.len() as u64);
         Ok(shed)
+    }
+
+    /// Sends what is unsent, oldest first, until all is sent or the queue is full ([`Sender::send`]).
+    ///
+    /// # Errors
+    /// `NoMemory` if the copy of a note was refused memory: that note, and all after it, stay unsent.
+    pub fn send<P: Relays, R: Wait>(
+        &mut self,
+        rt: &R,
+        queue: &RuledArrayQueue<Note, PassLog, P>,
+    ) -> Result<(), AllocError>
+        requires { IsAt queue.now (sending self.old.seat.sender) }
+        ensures sends { SendsMore self.old.seat.sender self.new.seat.sender }
+        ensures keeps { IsOnlySent (front_of self.old.seat.sender) (front_of self.new.seat.sender) }
+        // All is sent, or at one moment of the call the queue was full, and the pass had sent what it has now.
+        ensures ok { OnOk result ((unsent_of (front_of self.new.seat.sender) ≡ [])
+            ⊎ WasSeen P.holds (ruled_capacity queue.now) (view (sending self.new.seat.sender))) }
+        ensures err { OnErr result (unsent_of (front_of self.new.seat.sender) ≢ []) }
+        ensures reports { (self.new.has_failed ≡ self.old.has_failed)
+            × (self.new.acknowledged ≡ self.old.acknowledged) }
+    {
+        let FrontDesk { seat, .. } = self;
+        seat.sender.send(rt, queue)
     }
 
     /// Settles what a flush has put on the disks. `None`, and nothing has changed, if the flush is not of this front's

@@ -4,9 +4,10 @@ ghost use Rattle.flusher.specs.Names.{IsTableAt};
 ghost use Rattle.note_queue.specs.Words.{taking};
 
 use crate::Naming;
+use crossbeam_queue::RuledArrayQueue;
 use disk_model::Disk;
-use ledger_core::{Debt, Key, Totals};
-use note_queue::{NoteQueue, Side};
+use ledger_core::{Debt, Key, Note, Totals};
+use note_queue::{PassLog, Relays, Side};
 use recovery::{Flushed, TapeFault};
 use std::marker::PhantomData;
 use std::sync::Wait;
@@ -51,14 +52,14 @@ impl<D: Disk, N: Naming> TapeDesk<D, N> {
     ghost use Rattle.std.specs.Prelude.{IfErr, IfOk, IfSome, IsErrOf, IsOk, IsSome, OnOk, map};
     ghost use Rattle.std.specs.List.{Contains};
     ghost use Rattle.crossbeam_queue.specs.Passes.{view};
-    ghost use Rattle.flusher.specs.Flushes.{Acknowledges, IsFlushOf, RefusesAnew};
-    ghost use Rattle.flusher.specs.Room.{HasNoRoomAnew, TapeHasNoRoom};
+    ghost use Rattle.flusher.specs.Flushes.{Acknowledges, IsFlushOf, RefusesOrRewrites};
+    ghost use Rattle.flusher.specs.Room.{HasNoRoomRewritten, TapeHasNoRoom};
     ghost use Rattle.ledger_core.specs.Index.{debt_at};
     ghost use Rattle.ledger_core.specs.State.{IsOwed};
     ghost use Rattle.note_queue.specs.Calls.{IsNotCalled, TakesMore};
     ghost use Rattle.note_queue.specs.Ends.{IsSameEnd, KeepsFor};
     ghost use Rattle.note_queue.specs.Owns.{LeavesFirst};
-    ghost use Rattle.note_queue.specs.Relay.{IsAt, Relayed, WasSeen};
+    ghost use Rattle.note_queue.specs.Relay.{IsAt, WasSeen};
     ghost use Rattle.note_queue.specs.Words.{kept_of, tape_of};
     ghost use Rattle.recovery.specs.Flushes.{RefusesFlush};
     ghost use Rattle.recovery.specs.Notes.{History};
@@ -72,12 +73,16 @@ impl<D: Disk, N: Naming> TapeDesk<D, N> {
     ///
     /// # Errors
     /// Why the tape refuses the note that is kept now: `Broken`; `Note`, which no run meets; `PendingFull`; `NoMemory`.
-    pub fn pull<R: Wait>(&mut self, rt: &R, queue: &NoteQueue) -> Result<(), TapeFault>
+    pub fn pull<P: Relays, R: Wait>(
+        &mut self,
+        rt: &R,
+        queue: &RuledArrayQueue<Note, PassLog, P>,
+    ) -> Result<(), TapeFault>
         requires { IsAt queue.now (taking self.old.side) }
         ensures takes { TakesMore (taking self.old.side) (taking self.new.side) }
         ensures ok { OnOk result (kept_of self.new.side ≡ None) }
         // At one moment of the call the queue was empty, and the pass had taken what it has now.
-        ensures empty { OnOk result (WasSeen Relayed 0 (view (taking self.new.side))) }
+        ensures empty { OnOk result (WasSeen P.holds 0 (view (taking self.new.side))) }
         ensures err { IfErr result (KeepsFor self.new.side) }
         ensures keeps { IsNotCalled (tape_of self.old.side) (tape_of self.new.side) }
     {
@@ -97,7 +102,7 @@ impl<D: Disk, N: Naming> TapeDesk<D, N> {
             → Acknowledges h (tape_of self.old.side) (tape_of self.new.side) result }
         ensures moments { LeavesFirst (view (taking self.old.side)).got_on
             (view (taking self.old.side)).got (tape_of self.old.side) (tape_of self.new.side) }
-        ensures refuses { RefusesAnew (TapeHasNoRoom (tape_of self.old.side))
+        ensures refuses { RefusesOrRewrites (TapeHasNoRoom (tape_of self.old.side))
             (tape_of self.old.side) (tape_of self.new.side) result }
         ensures keeps { IsSameEnd self.old.side self.new.side }
     {
@@ -136,7 +141,7 @@ impl<D: Disk, N: Naming> TapeDesk<D, N> {
             → Acknowledges h (tape_of self.old.side) (tape_of self.new.side) result }
         ensures moments { LeavesFirst (view (taking self.old.side)).got_on
             (view (taking self.old.side)).got (tape_of self.old.side) (tape_of self.new.side) }
-        ensures refuses { RefusesAnew (HasNoRoomAnew (tape_of self.old.side))
+        ensures refuses { RefusesOrRewrites (HasNoRoomRewritten (tape_of self.old.side))
             (tape_of self.old.side) (tape_of self.new.side) result }
         ensures keeps { IsSameEnd self.old.side self.new.side }
     {
@@ -151,12 +156,18 @@ impl<D: Disk, N: Naming> TapeDesk<D, N> {
     /// # Errors
     /// Those of `rotate`.
     pub fn rotate_if_due(&mut self) -> Result<Option<Flush>, TapeFault>
-        ensures not_due { (IsDue (tape_of self.old.side) → ⊥)
+        ensures unchanged { (IsDue (tape_of self.old.side) → ⊥)
             → (result ≡ Ok None) × (self.new ≡ self.old) }
-        ensures due { IsDue (tape_of self.old.side) → IfOk result (λ rotated. IsSome rotated
-            × (generation_of (tape_of self.new.side)
+        ensures generation { IsDue (tape_of self.old.side) → IfOk result (λ rotated.
+            IsSome rotated × (generation_of (tape_of self.new.side)
             ≡ generation_of (tape_of self.old.side) + 1)) }
         ensures some { IfOk result (λ rotated. IfSome rotated (IsFlushOf (tape_of self.new.side))) }
+        ensures acknowledges { IsDue (tape_of self.old.side)
+            → (h : History) → StandsFor (tape_of self.old.side) h
+            → Acknowledges h (tape_of self.old.side) (tape_of self.new.side) result }
+        ensures moments { IsDue (tape_of self.old.side)
+            → LeavesFirst (view (taking self.old.side)).got_on (view (taking self.old.side)).got
+            (tape_of self.old.side) (tape_of self.new.side) }
         ensures refuses { IsDue (tape_of self.old.side)
             → RefusesRotation (tape_of self.old.side) (tape_of self.new.side) result }
         ensures keeps { IsSameEnd self.old.side self.new.side }

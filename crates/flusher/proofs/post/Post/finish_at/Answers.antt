@@ -8,8 +8,8 @@ returns-clause-ok g c =
     on_ok_weaker finished.result (λ done. (front_of finished.new.desk.seat.sender, done, c.send.ensures.sends))
     finished.ensures.ok
 
-pub returns-clause-same : goal.returns-clause-same
-returns-clause-same g c =
+pub returns-clause-front : goal.returns-clause-front
+returns-clause-front g c =
     let finished = c.finish_counted-finished in
     on_err_weaker finished.result (λ same. (front_of finished.new.desk.seat.sender, same, c.send.ensures.sends))
-    finished.ensures.same
+    finished.ensures.front
