@@ -97,14 +97,17 @@ impl<F: AllocGlobal + Files<File = File>, W: Write, N: Naming> IntakeWorker<'_, 
             if !self.acknowledge(rt, signals, &mut ordered, most)? {
                 return Ok(());
             }
-            self.tidy(rt, funnel)?;
+            if let Err(error) = self.tidy(rt, funnel) {
+                self.acknowledge(rt, signals, &mut ordered, 0)?;
+                return Err(error);
+            }
             if batch.is_last {
                 return Ok(());
             }
             self.look_after(rt, post, funnel.path());
             if self.is_to_end(rt) {
                 self.acknowledge(rt, signals, &mut ordered, 0)?;
-                return Ok(());
+                return self.tidy(rt, funnel);
             }
         }
         unreachable!()
