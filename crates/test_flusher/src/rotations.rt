@@ -507,7 +507,19 @@ struct IntakeDisks {
     mark: u64,
 }
 
-// Acknowledges lines one by one, which name no peer, and asks for a rotation; if memory for it is refused, once more.
+// Acknowledges a line, which names no peer.
+fn acknowledge_one<N: Naming, R: Wait>(
+    rt: &R,
+    post: &Post<FuseDisk<MemDisk>, N>,
+    lines: &mut IntakeShare<N>,
+) -> Result<(), Fail> {
+    post.take_line(rt, b"a/1 <x@y> nobody", lines)?;
+    post.flush_all(rt, &Free)?;
+    Ok(())
+}
+
+// Acknowledges lines one by one, asks for a rotation, twice in case that memory for the first is refused, and
+// acknowledges one more line.
 fn acknowledge_each<N: Naming, R: Wait>(
     rt: &R,
     post: &Post<FuseDisk<MemDisk>, N>,
@@ -515,12 +527,11 @@ fn acknowledge_each<N: Naming, R: Wait>(
     count: u64,
 ) -> Result<(), Fail> {
     for _ in 0..count {
-        post.take_line(rt, b"a/1 <x@y> nobody", lines)?;
-        post.flush_all(rt, &Free)?;
+        acknowledge_one(rt, post, lines)?;
     }
     post.rotate_all(rt)?;
     post.rotate_all(rt)?;
-    Ok(())
+    acknowledge_one(rt, post, lines)
 }
 
 fn run_acknowledging<N: Naming, R: Wait>(
@@ -571,18 +582,18 @@ fn acknowledged<R: Wait>(rt: &R, alloc: Global, count: u64) -> Result<IntakeDisk
 }
 
 // Each line takes a record of 14 octets, and the gate at the end one. A tape that is longer than 65,536 octets is
-// rewritten: the second disk has a Base of 54 octets, and the gate.
+// rewritten: the second disk has a Base of 54 octets, the line that came after it, and the gate.
 #[test]
 fn the_tape_of_the_intake_is_rewritten_once_it_is_long(rt: HostRuntime) -> Result<(), Fail> {
     let alloc = rt.alloc();
     let left = IntakeDisks {
-        octets: (65_535, 0),
-        mark: 4_681,
+        octets: (65_549, 0),
+        mark: 4_682,
     };
     assert_eq!(rt; acknowledged(&rt, alloc, 4_681)?, left);
     let rewritten = IntakeDisks {
-        octets: (65_549, 55),
-        mark: 4_682,
+        octets: (65_549, 69),
+        mark: 4_683,
     };
     assert_eq!(rt; acknowledged(&rt, alloc, 4_682)?, rewritten);
     Ok(())
