@@ -27,7 +27,7 @@ enum SlotScan {
 
 impl<S: SpoolDirectory + Drop, C: Net + Drop, N: Naming> Feeder<S, C, N> {
     /// Begins to connect the slots that are due, no more for a peer than it needs, if slots are to be checked and
-    /// debts are claimed. A peer whose station is in use is checked again at the next turn.
+    /// debts are claimed. A peer whose front is in use is checked again at the next turn.
     pub(crate) fn connect_due<D: Disk, R: Wait + Log, P: Pace>(
         &mut self,
         rt: &R,

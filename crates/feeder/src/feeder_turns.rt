@@ -107,7 +107,8 @@ impl<S: SpoolDirectory + Drop, C: Net + Drop, N: Naming> Feeder<S, C, N> {
             || !self.connections.iter().any(|(_, one)| one.holds_debts())
     }
 
-    /// The post as this feeder uses it now; `waits` is whether it waits for a station that is in use.
+    /// The post as this feeder uses it now; `waits` is whether it waits for a front or a tape that is in use
+    /// ([`PostView::waits`]).
     pub(crate) fn post_view<'a, D: Disk, P: Pace>(
         &self,
         post: &'a Post<D, N>,
@@ -294,8 +295,8 @@ impl<S: SpoolDirectory + Drop, C: Net + Drop, N: Naming> Feeder<S, C, N> {
         self.on_over(rt, view, connection);
     }
 
-    /// Drops a connection, or leaves that to the next turn if its station is in use. What it may still hold is ready
-    /// again. Its slot waits, unless the connection ended in good order or failed at a debt.
+    /// Drops a connection, or leaves that to the next turn if its peer's front is in use. What it may still hold is
+    /// ready again. Its slot waits, unless the connection ended in good order or failed at a debt.
     pub(crate) fn remove<D: Disk, R: Wait + Log, P: Pace>(
         &mut self,
         rt: &R,
@@ -388,7 +389,7 @@ impl<S: SpoolDirectory + Drop, C: Net + Drop, N: Naming> Feeder<S, C, N> {
         }
     }
 
-    // Whether a station of its peers has become half full of pending notes since the last call.
+    // Whether a front of its peers has become half full of pending notes since the last call.
     fn take_half_full<D: Disk, P: Pace>(&self, view: &PostView<'_, D, N, P>) -> bool {
         let mut found = false;
         for peer in &self.peers {
@@ -401,7 +402,7 @@ impl<S: SpoolDirectory + Drop, C: Net + Drop, N: Naming> Feeder<S, C, N> {
         if self.connections.iter().any(|(_, one)| one.is_dirty()) {
             WakeReason::Now
         } else if self.checks_slots || self.connections.iter().any(|(_, one)| one.is_blocked()) {
-            WakeReason::Station
+            WakeReason::Busy
         } else if self.awaits_flush() {
             WakeReason::Flush
         } else if last_phase || self.draining_since.is_some() {

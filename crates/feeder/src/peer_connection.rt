@@ -79,7 +79,7 @@ pub(crate) struct PeerConnection {
     postponed: Option<Postponed>,
     // Something happened on it, or may have: it needs service.
     is_dirty: bool,
-    // Its station was in use.
+    // Its peer's front was in use, or the tape that alone has a debt's texts.
     is_blocked: bool,
     // How many debts it holds.
     held: u64,
@@ -170,8 +170,8 @@ impl PeerConnection {
         self.conn.closed()
     }
 
-    /// Whether it is to be serviced now: something happened on it, its station was in use, or an outcome of it was not
-    /// taken.
+    /// Whether it is to be serviced now: something happened on it, its peer's front or tape was in use, or an outcome
+    /// of it was not taken.
     pub fn needs_service(&self) -> bool {
         self.is_dirty || self.is_blocked || self.kept.is_some()
     }
@@ -181,7 +181,7 @@ impl PeerConnection {
         self.is_dirty
     }
 
-    /// Whether its station was in use at its last service.
+    /// Whether its peer's front or tape was in use, at its last service or when it was to be dropped.
     pub fn is_blocked(&self) -> bool {
         self.is_blocked
     }
@@ -191,7 +191,7 @@ impl PeerConnection {
         self.kept.is_some()
     }
 
-    /// Whether an outcome of it waits for a flush, which makes room at the station.
+    /// Whether an outcome of it waits for a flush, which makes room at the front.
     pub fn awaits_flush(&self) -> bool {
         self.kept.is_some() && !self.is_blocked
     }
@@ -210,7 +210,7 @@ impl PeerConnection {
         self.is_dirty = true;
     }
 
-    /// Its station is in use.
+    /// Its peer's front or tape is in use.
     pub fn mark_blocked(&mut self) {
         self.is_blocked = true;
     }

@@ -21,8 +21,8 @@ pub(crate) struct PostView<'a, D: Disk, N: Naming, P: Pace> {
     pub due: u64,
     /// Whether debts are claimed: not if the run is to end.
     pub claims: bool,
-    /// Whether a call waits for a tape that is in use; otherwise it is refused with `Busy`. The same goes for a front,
-    /// except that `claim` and `finish` always wait for it.
+    /// Whether `claim` waits for a tape that is in use, and `put_off` and `release` for a front; otherwise they are
+    /// refused. `claim`, `finish` and `has_work` always wait for a front, `take_room` and `all_later` never do.
     pub waits: bool,
 }
 
@@ -100,7 +100,7 @@ impl<D: Disk, N: Naming, P: Pace> PostView<'_, D, N, P> {
         }
     }
 
-    /// Makes all debts ready that this connection held. False if the station is in use and `waits` is false.
+    /// Makes all debts ready that this connection held. False if the peer's front is in use and `waits` is false.
     pub fn release<R: Wait>(&self, rt: &R, peer: usize, connection: CxnId) -> bool {
         if peer >= self.post.peers() {
             return true;
@@ -113,7 +113,7 @@ impl<D: Disk, N: Naming, P: Pace> PostView<'_, D, N, P> {
     }
 
     /// Counts a connection of the peer that can hold `room` debts, if the peer is owed more debts than the connections
-    /// counted so far can hold. None if its station is in use.
+    /// counted so far can hold. None if its front is in use.
     pub fn take_room(&self, peer: usize, room: u64) -> Option<bool> {
         if peer >= self.post.peers() {
             return Some(false);
@@ -135,7 +135,7 @@ impl<D: Disk, N: Naming, P: Pace> PostView<'_, D, N, P> {
         }
     }
 
-    /// Whether no debt of the peer is ready and no connection holds one. False if its station is in use.
+    /// Whether no debt of the peer is ready and no connection holds one. False if its front is in use.
     ///
     /// # Errors
     /// `NoPeer`.
@@ -146,12 +146,12 @@ impl<D: Disk, N: Naming, P: Pace> PostView<'_, D, N, P> {
         Ok(self.post.try_all_later(peer).unwrap_or(false))
     }
 
-    /// Whether a debt of the peer is ready or a connection holds one. Waits for the station.
+    /// Whether a debt of the peer is ready or a connection holds one. Waits for the peer's front.
     pub fn has_work<R: Wait>(&self, rt: &R, peer: usize) -> bool {
         peer < self.post.peers() && !self.post.all_later(rt, peer)
     }
 
-    /// Whether the peer's station has become half full of pending notes since the last call, of either feeder.
+    /// Whether the peer's front has become half full of pending notes since the last call, of either feeder.
     pub fn take_half_full(&self, peer: usize) -> bool {
         peer < self.post.peers() && self.post.take_half_full(peer)
     }
@@ -162,7 +162,7 @@ impl<D: Disk, N: Naming, P: Pace> PostView<'_, D, N, P> {
     }
 }
 
-/// Whether the station was in use, so that the next turn is to ask again.
+/// Whether a front was in use, or a tape that alone has a debt's texts, so that the next turn is to ask again.
 pub(crate) fn is_busy(fault: FeederFault) -> bool {
     matches!(fault, FeederFault::Post(PostFault::Busy { .. }))
 }

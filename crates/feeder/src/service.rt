@@ -58,8 +58,8 @@ pub(crate) fn service<D: Disk, N: Naming, S: SpoolDirectory, R: Wait + Log, P: P
     Ok(())
 }
 
-/// Takes the outcomes of a connection's debts to the station, oldest first, until the station needs a flush first, or
-/// is in use when a debt is to be put off.
+/// Takes the outcomes of a connection's debts to its peer's front, oldest first, until the front needs a flush first,
+/// or is in use when a debt is to be put off.
 ///
 /// # Errors
 /// The post's fault, if no flush helps; the connection keeps the outcome.

@@ -9,8 +9,8 @@ pub(crate) enum WakeReason {
     LastPhase,
     /// An outcome waits for a flush.
     Flush,
-    /// A station was in use.
-    Station,
+    /// A front or a tape was in use, or slots are to be checked again.
+    Busy,
     /// A connection can go on at once.
     Now,
 }
@@ -19,7 +19,7 @@ const LAST_PHASE_SLEEP_MAX_MS: u64 = 100;
 
 const FLUSH_SLEEP_MAX_MS: u64 = 10;
 
-const STATION_SLEEP_MAX_MS: u64 = 1;
+const BUSY_SLEEP_MAX_MS: u64 = 1;
 
 impl WakeReason {
     /// How many milliseconds to sleep at most, if `millis` have passed since a full second.
@@ -33,7 +33,7 @@ impl WakeReason {
             WakeReason::None => rest,
             WakeReason::LastPhase => rest.min(LAST_PHASE_SLEEP_MAX_MS),
             WakeReason::Flush => rest.min(FLUSH_SLEEP_MAX_MS),
-            WakeReason::Station => rest.min(STATION_SLEEP_MAX_MS),
+            WakeReason::Busy => rest.min(BUSY_SLEEP_MAX_MS),
             WakeReason::Now => 0,
         }
     }
