@@ -206,9 +206,8 @@ impl<D: Disk> Side<D> {
         ensures owed { IfOk result (λ debts. map lengths_of debts.items
             ≡ map lengths_of (debts_at (ledger_of self.old.tape) keys.now)) }
         ensures broken { IsErrOf result TapeFault.Broken ↔ IsBroken self.old.tape }
-        ensures refuses { IsErrOf result TapeFault.Disk
-            → (key : ℕ) × Contains keys.now key × IsOwed (ledger_of self.old.tape) key }
-        ensures kinds { IfErr result IsDebtFault }
+        ensures refuses { IfErr result (λ e. IsDebtFault e × (e ≡ TapeFault.Disk
+            → (key : ℕ) × Contains keys.now key × IsOwed (ledger_of self.old.tape) key)) }
         ensures cause { (h : History) → StandsFor self.old.tape h → IsErrOf result TapeFault.Disk
             → OneHasRisen (faults_of self.old.tape) (faults_of self.new.tape) }
         ensures reads { IsRead self.old.tape self.new.tape }
