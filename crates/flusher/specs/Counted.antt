@@ -1,8 +1,12 @@
--- What finishing an outcome counts.
-use Rattle.std.specs.Prelude.{◌≡◌, ◌+◌, ℕ}
+-- What finishing an outcome counts, and shedding.
+use Rattle.std.specs.Prelude.{◌≡◌, ◌+◌, ℕ, length}
 use Rattle.conn_core.specs.declared.outcome.Outcome.{Outcome}
+use Rattle.peer_queue.specs.Front.{limits_of}
+use Rattle.peer_queue.specs.FrontCalls.{Finishes, Sheds}
 use Rattle.peer_queue.specs.Settled.{settled_by}
+use Rattle.peer_queue.specs.declared.front.Front.{Front}
 use Rattle.peer_queue.specs.declared.limits.Limits.{Limits}
+use Rattle.peer_queue.specs.declared.limits.Shed.{Shed}
 use Rattle.peer_queue.specs.declared.settled.Settled.{Settled}
 use Rattle.peer_queue.specs.declared.settled.Settled.TheVariants.{Answered, Dropped, Later, Ready}
 use Rattle.flusher.specs.Shares.{FeederCount}
@@ -31,3 +35,16 @@ pub record IsCounted (outcome : Outcome) (now : ℕ) (settled : Settled) (old ne
   pub limits : Limits
   pub became : settled ≡ settled_by limits now outcome
   pub counts : Counts settled old new
+
+-- A front takes a connection's outcome of a debt, at this moment: this becomes of the debt by the front's limits, and
+-- a share counts it.
+pub record FinishesAndCounts (connection now : ℕ) (outcome : Outcome) (settled : Settled) (old new : Front)
+    (before after : FeederCount) : Type 0 where
+  pub finishes : Finishes connection now outcome old new
+  pub settles : settled ≡ settled_by (limits_of old) now outcome
+  pub counted : IsCounted outcome now settled before after
+
+-- A front sheds these debts, and a share counts them.
+pub record ShedsAndCounts (shed : Shed) (old new : Front) (before after : ℕ) : Type 0 where
+  pub sheds : Sheds old new shed
+  pub counted : after ≡ before + length shed.keys.items

@@ -1,5 +1,5 @@
 -- When a front refuses what its peer's post is asked.
-use Rattle.std.specs.Prelude.{◌≡◌, ◌≢◌, ◌↔◌, ℕ, IsErrAnd, IsErrOf, IsSome, OnErr, Result}
+use Rattle.std.specs.Prelude.{◌≡◌, ◌≢◌, ◌↔◌, ℕ, IfErr, IsErrAnd, IsErrOf, IsSome, OnErr, Result}
 use Rattle.conn_core.specs.declared.outcome.Outcome.{Outcome}
 use Rattle.note_queue.specs.Noted.{IsOnlySent}
 use Rattle.peer_queue.specs.DebtPlace.{IsHeldBy, least_candidate}
@@ -12,6 +12,7 @@ use Rattle.peer_queue.specs.declared.fault.StationFault.TheVariants.{Broken, NoM
 use Rattle.peer_queue.specs.declared.front.Front.{Front}
 use Rattle.peer_queue.specs.declared.settled.Settled.{Settled}
 use Rattle.recovery.specs.declared.fault.TapeFault.TheVariants.{PendingFull}
+use Rattle.flusher.specs.Faults.{IsShedFault}
 use Rattle.flusher.specs.declared.fault.PostFault.{PostFault}
 use Rattle.flusher.specs.declared.fault.PostFault.TheVariants.{CountFull, Station, Stranger}
 
@@ -23,6 +24,11 @@ pub record RefusesOutcome (connection now : ℕ) (outcome : Outcome) (old new : 
       ↔ (IsEnded (settled_by (limits_of old) now outcome) × MeetsFull old connection (key_in outcome))
   pub no_memory : Tells result NoMemory → IsEnded (settled_by (limits_of old) now outcome)
   pub unchanged : OnErr result (IsSame old new)
+
+-- when a front refuses to shed
+pub record RefusesShed {A : Type 0} (front : Front) (result : Result A StationFault) : Type 0 where
+  pub broken : IsErrOf result Broken ↔ IsBroken front
+  pub kinds : IfErr result IsShedFault
 
 -- the front of this peer refused the call with this fault, and something was handed back with it
 abbrev pub TellsOf : {A B : Type 0} → ℕ → Result A (B × PostFault) → StationFault → Type 0

@@ -5,6 +5,7 @@ ghost use Rattle.crossbeam_queue.specs.Passes.{view};
 ghost use Rattle.flusher.specs.Counted.{IsCounted};
 ghost use Rattle.flusher.specs.Faults.{IsOfStation, IsPutOffFault, IsShedFault};
 ghost use Rattle.flusher.specs.Refuses.{RefusesHeldOf, RefusesOutcomeOf, ThenSent};
+ghost use Rattle.flusher.specs.Reports.{KeepsReport};
 ghost use Rattle.flusher.specs.Room.{IsCountFull};
 ghost use Rattle.note_queue.specs.Noted.{IsOnlySent};
 ghost use Rattle.note_queue.specs.Relay.{Relayed, WasSeen};
@@ -148,8 +149,7 @@ impl<D: Disk, N: Naming> Post<D, N> {
         ensures stranger { IsErrOf result (PostFault.Stranger peer) ↔ desk.old.seat.place ≢ peer }
         ensures no_memory { IsErrOf result PostFault.NoMemory
             → unsent_of (front_of desk.new.seat.sender) ≢ [] }
-        ensures reports { (desk.new.has_failed ≡ desk.old.has_failed)
-            × (desk.new.acknowledged ≡ desk.old.acknowledged) }
+        ensures keeps_report { KeepsReport desk.old desk.new }
         ensures kinds { IfErr result
             (λ e. (e ≡ PostFault.Stranger peer) ⊎ (e ≡ PostFault.NoMemory)) }
     {
@@ -304,6 +304,7 @@ impl<D: Disk, N: Naming> Post<D, N> {
             (λ e. (e.1 ≡ PostFault.CountFull) ⊎ IsOfStation peer IsEndFault e.1) }
         ensures unchanged { OnErr result
             ((mine.new.answered ≡ mine.old.answered) × (mine.new.dropped ≡ mine.old.dropped)) }
+        ensures keeps_report { KeepsReport desk.old desk.new }
     {
         let before = desk.pending();
         let finished = self.finish_counted(rt, peer, desk, connection, outcome, now, mine);
@@ -337,6 +338,7 @@ impl<D: Disk, N: Naming> Post<D, N> {
             (λ e. (e.1 ≡ PostFault.CountFull) ⊎ IsOfStation peer IsEndFault e.1) }
         ensures unchanged { OnErr result
             ((mine.new.answered ≡ mine.old.answered) × (mine.new.dropped ≡ mine.old.dropped)) }
+        ensures keeps_report { KeepsReport desk.old desk.new }
     {
         let mut tally = self.ended(rt);
         finish_in(peer, desk, &mut tally, connection, outcome, now, mine)
@@ -370,6 +372,7 @@ fn put_off_at<N: Naming>(
     ensures kinds { IfErr result (λ e. IsOfStation peer IsPutOffFault e.1) }
     ensures unchanged { OnErr result
         (IsSame (front_of desk.old.seat.sender) (front_of desk.new.seat.sender)) }
+    ensures keeps_report { KeepsReport desk.old desk.new }
 {
     match desk.put_off(connection, debt, until) {
         Ok(()) => Ok(()),
@@ -397,6 +400,7 @@ fn shed_in<N: Naming>(
     ensures unchanged { OnErr result
         ((mine.new.answered ≡ mine.old.answered) × (mine.new.dropped ≡ mine.old.dropped)
         × IsSame (front_of desk.old.seat.sender) (front_of desk.new.seat.sender)) }
+    ensures keeps_report { KeepsReport desk.old desk.new }
 {
     if tally.dropped.is_full() {
         return Err(PostFault::CountFull);
@@ -431,6 +435,7 @@ fn finish_in<N: Naming>(
     ensures unchanged { OnErr result
         ((mine.new.answered ≡ mine.old.answered) × (mine.new.dropped ≡ mine.old.dropped)
         × IsSame (front_of desk.old.seat.sender) (front_of desk.new.seat.sender)) }
+    ensures keeps_report { KeepsReport desk.old desk.new }
 {
     if !tally.has_room() {
         return Err((outcome, PostFault::CountFull));

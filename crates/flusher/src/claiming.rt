@@ -4,6 +4,7 @@ ghost use Rattle.std.specs.Prelude.{Err, IfErr, IfOk, IsErrOf, MatchOption, Matc
 ghost use Rattle.flusher.specs.Claims.{Claims, GivesBack};
 ghost use Rattle.flusher.specs.Faults.{IsOfPeer, IsOfStation};
 ghost use Rattle.flusher.specs.Refuses.{RefusesClaimOf};
+ghost use Rattle.flusher.specs.Reports.{KeepsReport};
 ghost use Rattle.ledger_core.specs.Index.{debt_at};
 ghost use Rattle.ledger_core.specs.State.{IsOwed};
 ghost use Rattle.note_queue.specs.Ends.{IsSameEnd};
@@ -155,6 +156,7 @@ fn claim_at<N: Naming>(
     ensures refuses { RefusesClaimOf peer now (front_of desk.old.seat.sender)
         (front_of desk.new.seat.sender) result }
     ensures kinds { IfErr result (IsOfStation peer IsClaimFault) }
+    ensures keeps_report { KeepsReport desk.old desk.new }
 {
     match desk.claim(connection, now) {
         Ok(claimed) => Ok(claimed),

@@ -72,30 +72,30 @@ pub(crate) enum Claimed {
 
 impl<N: Naming> FrontDesk<N> {
     ghost use Rattle.std.specs.Prelude.{◌≢◌, ◌⊎◌, ◌-◌, ◌<◌, ◌≤◌, ◌^◌, ◌↔◌, []};
-    ghost use Rattle.std.specs.Prelude.{true, false, if◌then◌else◌, max, min};
-    ghost use Rattle.std.specs.Prelude.{IfErr, IfOk, IfSome, IsErrOf, IsNone, IsSome, IsTrue, OnErr, OnOk};
-    ghost use Rattle.std.specs.Prelude.{filter, length, nat_lt, take};
+    ghost use Rattle.std.specs.Prelude.{true, false, min};
+    ghost use Rattle.std.specs.Prelude.{IfErr, IfOk, IfSome, IsNone, IsSome, IsTrue, OnErr, OnOk};
+    ghost use Rattle.std.specs.Prelude.{filter, nat_lt, take};
     ghost use Rattle.std.specs.List.{All};
     ghost use Rattle.crossbeam_queue.specs.Passes.{ruled_capacity, view};
     ghost use Rattle.flusher.specs.Ahead.{gone_on, kept_with, wanted_behind};
     ghost use Rattle.flusher.specs.Claims.{Claims, GivesBack, Unclaims};
-    ghost use Rattle.flusher.specs.Counted.{IsCounted};
-    ghost use Rattle.flusher.specs.Faults.{IsPutOffFault, IsShedFault, IsTakeFault};
+    ghost use Rattle.flusher.specs.Counted.{FinishesAndCounts, ShedsAndCounts};
+    ghost use Rattle.flusher.specs.Faults.{IsPutOffFault};
     ghost use Rattle.flusher.specs.ReadAhead.{LetsGo, Uses, end_in, kept_in};
-    ghost use Rattle.flusher.specs.Refuses.{RefusesClaim, RefusesOutcome};
+    ghost use Rattle.flusher.specs.Refuses.{RefusesClaim, RefusesOutcome, RefusesShed};
+    ghost use Rattle.flusher.specs.Reports.{KeepsReport};
     ghost use Rattle.flusher.specs.Sealed.{HasSettled};
-    ghost use Rattle.flusher.specs.Takes.{AnswersLine, TakesLine};
+    ghost use Rattle.flusher.specs.Takes.{RefusesAtDesk, TakesAndCounts};
     ghost use Rattle.ledger_core.specs.Shape.{shape_totals};
     ghost use Rattle.note_queue.specs.Noted.{IsOnlySent};
     ghost use Rattle.note_queue.specs.Relay.{IsAt, WasSeen};
     ghost use Rattle.note_queue.specs.Sending.{SendsMore};
     ghost use Rattle.peer_queue.specs.Faults.{IsClaimFault, IsEndFault};
-    ghost use Rattle.peer_queue.specs.Front.{IsBroken, IsSame, KeepsNotes, limits_of, pending_of, places_of, sent_of};
+    ghost use Rattle.peer_queue.specs.Front.{IsSame, KeepsNotes, pending_of, places_of, sent_of};
     ghost use Rattle.peer_queue.specs.Front.{settled_of, unsent_of};
-    ghost use Rattle.peer_queue.specs.FrontCalls.{Finishes, IsAnswered, OnlyOutbox, Refuses, Sheds};
+    ghost use Rattle.peer_queue.specs.FrontCalls.{IsAnswered, OnlyOutbox, Refuses};
     ghost use Rattle.peer_queue.specs.Outbox.{Breaks, Learns};
     ghost use Rattle.peer_queue.specs.DebtPlace.{IsLater, held_count, moved, place_until, released, unheld};
-    ghost use Rattle.peer_queue.specs.Settled.{settled_by};
 
     /// Takes a valid line, if its number is above the mark, and counts it.
     pub fn take(
@@ -108,22 +108,17 @@ impl<N: Naming> FrontDesk<N> {
     ) -> Result<(), TakeFault>
         requires part { mine.old.parts ≡ 1 }
         requires room { books.old + 1 < 2 ^ 64 }
-        ensures marked { OnOk result (mark.new ≡ max mark.old number) }
-        ensures counted { OnOk result
-            (mine.new.amount ≡ mine.old.amount + (if nat_lt mark.old number then 1 else 0)) }
-        ensures takes { OnOk result (TakesLine mark.old number line.now.token line.now.id
-            (front_of self.old.seat.sender) (front_of self.new.seat.sender)) }
+        ensures ok { OnOk result (TakesAndCounts mark.old number line.now.token line.now.id
+            (front_of self.old.seat.sender) (front_of self.new.seat.sender) mark.new
+            mine.old.amount mine.new.amount) }
         ensures unchanged { OnErr result ((mark.new ≡ mark.old)
             × (mine.new.amount ≡ mine.old.amount)
             × IsSame (front_of self.old.seat.sender) (front_of self.new.seat.sender)) }
-        ensures stranger { IsErrOf result TakeFault.Stranger
-            ↔ (front_shape (front_of self.old.seat.sender)).mark ≢ mark.old }
-        // With its mark, the front's answer decides.
-        ensures refuses { (front_shape (front_of self.old.seat.sender)).mark ≡ mark.old
-            → AnswersLine mark.old number line.now.token line.now.id
+        ensures refuses { RefusesAtDesk mark.old number line.now.token line.now.id
             (front_of self.old.seat.sender) (front_of self.new.seat.sender) result }
-        ensures kinds { IfErr result IsTakeFault }
         ensures part { mine.new.parts ≡ 1 }
+        ensures keeps_report { KeepsReport self.old self.new }
+        ensures keeps_ahead { self.new.ahead ≡ self.old.ahead }
     {
         let FrontDesk { seat, taken, .. } = self;
         if seat.sender.front().mark() != *mark {
@@ -150,17 +145,15 @@ impl<N: Naming> FrontDesk<N> {
         now: u64,
     ) -> Result<Settled, (Outcome, StationFault)>
         requires room { (tally.old.answered + 1 < 2 ^ 64) × (tally.old.dropped + 1 < 2 ^ 64) }
-        ensures ok { OnOk result (Finishes connection.0 now outcome (front_of self.old.seat.sender)
-            (front_of self.new.seat.sender)) }
-        ensures settled { IfOk result (λ settled.
-            settled ≡ settled_by (limits_of (front_of self.old.seat.sender)) now outcome) }
-        ensures counted { IfOk result
-            (λ settled. IsCounted outcome now settled mine.old mine.new) }
+        ensures ok { IfOk result (λ settled. FinishesAndCounts connection.0 now outcome settled
+            (front_of self.old.seat.sender) (front_of self.new.seat.sender) mine.old mine.new) }
         ensures returned { IfErr result (λ e. e.0 ≡ outcome) }
         ensures refuses { RefusesOutcome connection.0 now outcome (front_of self.old.seat.sender)
             (front_of self.new.seat.sender) result }
         ensures kinds { IfErr result (λ e. IsEndFault e.1) }
         ensures unchanged { OnErr result (mine.new ≡ mine.old) }
+        ensures keeps_report { KeepsReport self.old self.new }
+        ensures keeps_ahead { self.new.ahead ≡ self.old.ahead }
     {
         let FrontDesk {
             seat,
@@ -188,6 +181,7 @@ impl<N: Naming> FrontDesk<N> {
         ensures kinds { IfErr result IsClaimFault }
         ensures uses { IfOk result (Uses self.old.ahead self.new.ahead) }
         ensures lets_go { OnErr result (LetsGo self.old.ahead self.new.ahead) }
+        ensures keeps_report { KeepsReport self.old self.new }
     {
         let FrontDesk { seat, ahead, .. } = self;
         let Some(key) = seat.sender.claim_key(connection, now)? else {
@@ -231,6 +225,7 @@ impl<N: Naming> FrontDesk<N> {
         ensures kept { kept_in self.new.ahead ≡ kept_in self.old.ahead }
         ensures refused { OnErr result (self.new.ahead ≡ self.old.ahead) }
         ensures seat { self.new.seat ≡ self.old.seat }
+        ensures keeps_report { KeepsReport self.old self.new }
     {
         let FrontDesk { seat, ahead, .. } = self;
         let front = seat.sender.front();
@@ -249,6 +244,7 @@ impl<N: Naming> FrontDesk<N> {
         ensures unchanged { OnErr result (kept_in self.new.ahead ≡ kept_in self.old.ahead) }
         ensures end { end_in self.new.ahead ≡ end_in self.old.ahead }
         ensures seat { self.new.seat ≡ self.old.seat }
+        ensures keeps_report { KeepsReport self.old self.new }
     {
         let FrontDesk { ahead, .. } = self;
         ahead.keep(debts)
@@ -257,8 +253,10 @@ impl<N: Naming> FrontDesk<N> {
     /// Gives back a key that this connection claimed, because its texts could not be had: it is ready. A broken front
     /// stays as it is.
     pub fn unclaim(&mut self, connection: CxnId, key: Key)
-        ensures { Unclaims connection.0 key (front_of self.old.seat.sender)
+        ensures unclaims { Unclaims connection.0 key (front_of self.old.seat.sender)
             (front_of self.new.seat.sender) }
+        ensures keeps_report { KeepsReport self.old self.new }
+        ensures keeps_ahead { self.new.ahead ≡ self.old.ahead }
     {
         let FrontDesk { seat, .. } = self;
         let _ = seat.sender.unclaim(connection, key);
@@ -271,6 +269,8 @@ impl<N: Naming> FrontDesk<N> {
         ensures places { places_of (front_of self.new.seat.sender)
             ≡ released connection.0 (places_of (front_of self.old.seat.sender)) }
         ensures keeps { KeepsNotes (front_of self.old.seat.sender) (front_of self.new.seat.sender) }
+        ensures keeps_report { KeepsReport self.old self.new }
+        ensures keeps_ahead { self.new.ahead ≡ self.old.ahead }
     {
         let FrontDesk { seat, .. } = self;
         seat.sender.release(connection)
@@ -292,6 +292,8 @@ impl<N: Naming> FrontDesk<N> {
         ensures kinds { IfErr result (λ e. IsPutOffFault e.1) }
         ensures unchanged { OnErr result
             (IsSame (front_of self.old.seat.sender) (front_of self.new.seat.sender)) }
+        ensures keeps_report { KeepsReport self.old self.new }
+        ensures keeps_ahead { self.new.ahead ≡ self.old.ahead }
     {
         let FrontDesk { seat, .. } = self;
         seat.sender.put_off(connection, debt, until)?;
@@ -306,17 +308,15 @@ impl<N: Naming> FrontDesk<N> {
     ) -> Result<Shed, StationFault>
         requires part { mine.old.parts ≡ 1 }
         requires room { books.old + 65536 < 2 ^ 64 }
-        ensures ok { IfOk result
-            (Sheds (front_of self.old.seat.sender) (front_of self.new.seat.sender)) }
-        ensures counted { IfOk result
-            (λ shed. mine.new.amount ≡ mine.old.amount + length shed.keys.items) }
-        ensures broken { IsErrOf result StationFault.Broken
-            ↔ IsBroken (front_of self.old.seat.sender) }
+        ensures ok { IfOk result (λ shed. ShedsAndCounts shed (front_of self.old.seat.sender)
+            (front_of self.new.seat.sender) mine.old.amount mine.new.amount) }
+        ensures refuses { RefusesShed (front_of self.old.seat.sender) result }
         ensures unchanged { OnErr result
             (IsSame (front_of self.old.seat.sender) (front_of self.new.seat.sender)
             × (mine.new.amount ≡ mine.old.amount)) }
-        ensures kinds { IfErr result IsShedFault }
         ensures part { mine.new.parts ≡ 1 }
+        ensures keeps_report { KeepsReport self.old self.new }
+        ensures keeps_ahead { self.new.ahead ≡ self.old.ahead }
     {
         let FrontDesk { seat, dropped, .. } = self;
         let shed = seat.sender.shed()?;
@@ -340,8 +340,8 @@ impl<N: Naming> FrontDesk<N> {
         ensures ok { OnOk result ((unsent_of (front_of self.new.seat.sender) ≡ [])
             ⊎ WasSeen P.holds (ruled_capacity queue.now) (view (sending self.new.seat.sender))) }
         ensures err { OnErr result (unsent_of (front_of self.new.seat.sender) ≢ []) }
-        ensures reports { (self.new.has_failed ≡ self.old.has_failed)
-            × (self.new.acknowledged ≡ self.old.acknowledged) }
+        ensures keeps_report { KeepsReport self.old self.new }
+        ensures keeps_ahead { self.new.ahead ≡ self.old.ahead }
     {
         let FrontDesk { seat, .. } = self;
         seat.sender.send(rt, queue)
@@ -360,6 +360,7 @@ impl<N: Naming> FrontDesk<N> {
         ensures reports { IsSome result → (self.new.has_failed ≡ false)
             × (self.new.acknowledged ≡ flush.now.totals) }
         ensures unchanged { IsNone result → self.new ≡ self.old }
+        ensures keeps_ahead { self.new.ahead ≡ self.old.ahead }
     {
         let FrontDesk {
             seat,
@@ -383,6 +384,7 @@ impl<N: Naming> FrontDesk<N> {
             (front_of self.new.seat.sender) }
         ensures keeps { has_broken ≡ false
             → front_of self.new.seat.sender ≡ front_of self.old.seat.sender }
+        ensures keeps_ahead { self.new.ahead ≡ self.old.ahead }
     {
         let FrontDesk {
             seat,

@@ -5,6 +5,7 @@ ghost use Rattle.std.specs.Prelude.{nat_lt, ◌≢◌, ◌↔◌, IsErr, IsErrOf
 ghost use Rattle.flusher.specs.Faults.{IsLineFault};
 ghost use Rattle.flusher.specs.Marks.{IsRaised, IsRaisedBy, IsTakenAt, RefusesGood, RefusesLine, rises};
 ghost use Rattle.flusher.specs.Refuses.{RefusesTaking};
+ghost use Rattle.flusher.specs.Reports.{KeepsReport};
 ghost use Rattle.flusher.specs.Room.{IsCountFull};
 ghost use Rattle.flusher.specs.Takes.{TakesLine};
 ghost use Rattle.note_queue.specs.Words.{front_of};
@@ -199,6 +200,7 @@ impl<D: Disk, N: Naming> Post<D, N> {
             × IsSame (front_of desk.old.seat.sender) (front_of desk.new.seat.sender)) }
         ensures kinds { IfErr result (IsLineFault (λ at. at ≡ peer)) }
         ensures part { taken.new.parts ≡ 1 }
+        ensures keeps_report { KeepsReport desk.old desk.new }
     {
         let mut books = self.taken.lock(rt);
         take_in(peer, desk, &mut books, number, line, taken, mark)
@@ -228,6 +230,7 @@ fn take_in<N: Naming>(
         (front_of desk.old.seat.sender) result }
     ensures kinds { IfErr result (IsLineFault (λ at. at ≡ peer)) }
     ensures part { taken.new.parts ≡ 1 }
+    ensures keeps_report { KeepsReport desk.old desk.new }
 {
     if books.is_full() {
         return Err(PostFault::CountFull);

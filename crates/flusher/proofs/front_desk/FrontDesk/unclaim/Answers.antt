@@ -14,8 +14,8 @@ invariant_of-self g c =
       sum = old.sum;
     }
 
-pub returns : goal.returns
-returns g c =
+pub returns-clause-unclaims : goal.returns-clause-unclaims
+returns-clause-unclaims g c =
     let e = c.unclaim.ensures in
     unclaims c.args.connection.0 c.args.key (front_of c.args.self.now.seat.sender) (front_of c.unclaim.new.self)
     c.unclaim.result e.ok e.broken e.not_held e.kinds e.unchanged

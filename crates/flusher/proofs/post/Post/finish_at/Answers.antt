@@ -1,3 +1,4 @@
+use Rattle.std.proofs.Common.{◌∙◌}
 use Rattle.std.proofs.lemmas.Result.{on_err_weaker, on_ok_weaker}
 use Rattle.note_queue.specs.Words.{front_of}
 use Rattle.flusher.proofs.post.Post.finish_at.Goals as goal
@@ -13,3 +14,12 @@ returns-clause-front g c =
     let finished = c.finish_counted-finished in
     on_err_weaker finished.result (λ same. (front_of finished.new.desk.seat.sender, same, c.send.ensures.sends))
     finished.ensures.front
+
+pub returns-clause-keeps_report : goal.returns-clause-keeps_report
+returns-clause-keeps_report g c =
+    let finished = c.finish_counted-finished.ensures.keeps_report in
+    let sent = c.send.ensures.keeps_report in
+    record {
+      has_failed = sent.has_failed ∙ finished.has_failed;
+      acknowledged = sent.acknowledged ∙ finished.acknowledged;
+    }
