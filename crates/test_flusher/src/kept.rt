@@ -4,7 +4,7 @@ ghost use Rattle.std.specs.List.{All};
 ghost use Rattle.flusher.specs.Post.{IsFor, names_of};
 ghost use Rattle.flusher.specs.Sealed.{IsFlushed};
 
-use crate::shared::{DebtEnding, counted_on_disks, fused_intake, fused_peer, outcome};
+use crate::shared::{DebtEnding, counted_on_disks, fused_intake, fused_peer, outcome, take};
 use conn_core::CxnId;
 use disk_model::{FuseDisk, MemDisk};
 use flusher::{
@@ -12,7 +12,7 @@ use flusher::{
     PostFault, PostPeer, Unclosed,
 };
 use ledger_core::Note;
-use peer_queue::{Limits, StationFault};
+use peer_queue::Limits;
 use recovery::Tape;
 use std::alloc::Global;
 use std::marker::Brand;
@@ -73,25 +73,6 @@ struct KeptNotes {
     unsent: Option<Noted>,
     // What the peer's station has taken once it is opened again.
     on_disk: u64,
-}
-
-// Takes a line; if memory is refused, the line is given again.
-fn take<N: Naming, R: Wait>(
-    rt: &R,
-    post: &Post<FuseDisk<MemDisk>, N>,
-    line: &[u8],
-    lines: &mut IntakeShare<N>,
-) -> Result<u64, PostFault> {
-    match post.take_line(rt, line, lines) {
-        Err(PostFault::NoMemory)
-        | Err(
-            PostFault::Station {
-                fault: StationFault::NoMemory,
-                ..
-            },
-        ) => post.take_line(rt, line, lines),
-        taken => taken,
-    }
 }
 
 fn flush<N: Naming, R: Wait>(rt: &R, post: &Post<FuseDisk<MemDisk>, N>) -> Result<u64, PostFault> {

@@ -4,7 +4,7 @@ ghost use Rattle.std.specs.List.{All};
 ghost use Rattle.flusher.specs.Post.{IsFor, names_of};
 ghost use Rattle.flusher.specs.Sealed.{IsFlushed};
 
-use crate::shared::{counted_on_disks, fused_intake, fused_peer};
+use crate::shared::{check_fault, counted_on_disks, fused_intake, fused_peer, take};
 use disk_model::{Disk, FuseDisk, MemDisk};
 use flusher::{
     Blanks, ClosedPost, FeederShare, Flusher, Free, IntakeShare, Naming, Pace, Post, PostFault,
@@ -56,7 +56,8 @@ fn number(flushed: Result<Receipt, PostFault>) -> Result<u64, PostFault> {
     }
 }
 
-fn take<N: Naming, R: Wait>(
+// How many of the lines are taken, and how many are refused.
+fn take_lines<N: Naming, R: Wait>(
     rt: &R,
     post: &Post<FuseDisk<MemDisk>, N>,
     lines: &mut IntakeShare<N>,
@@ -64,7 +65,7 @@ fn take<N: Naming, R: Wait>(
 ) -> (u64, u64) {
     let mut taken: u64 = 0;
     for _ in 0..count {
-        if post.take_line(rt, LINE, lines).is_ok() {
+        if take(rt, post, LINE, lines).is_ok() {
             taken = taken.saturating_add(1);
         }
     }
@@ -85,11 +86,11 @@ fn filled<N: Naming, R: Wait>(
     let (post, mut lines, first, second, third) = Post::<FuseDisk<MemDisk>, N>::new(
         alloc, peers, intake, blanks,
     )?;
-    let (taken, refused) = take(rt, &post, &mut lines, LINES);
+    let (taken, refused) = take_lines(rt, &post, &mut lines, LINES);
     let full = number(post.flush_all(rt, &Free));
-    take(rt, &post, &mut lines, refused);
+    take_lines(rt, &post, &mut lines, refused);
     let rest = number(post.flush_all(rt, &Free));
-    take(rt, &post, &mut lines, 1);
+    take_lines(rt, &post, &mut lines, 1);
     let last = number(post.flush_all(rt, &Free));
     Ok(FullFlushes {
         taken,
@@ -156,7 +157,8 @@ const BESIDE_FLUSHES_LINES: u64 = 5_000;
 
 const BETWEEN_ORDERS_LINES: u64 = 50;
 
-// The intake. It takes its lines, waits only for the last flush that it orders, and keeps that one's receipt.
+// The intake. It takes its lines and waits only for the last flush that it orders. It keeps the number of its last line
+// and that flush's receipt.
 #[derive(Drop)]
 struct LineTaker<N: Naming> {
     share: IntakeShare<N>,
@@ -173,8 +175,8 @@ impl<D: Disk, N: Naming> Work<D, N> for LineTaker<N> {
         _pace: &P,
     ) {
         for line in 0..BESIDE_FLUSHES_LINES {
-            if post.take_line(rt, LINE, &mut self.share).is_ok() {
-                self.taken = line + 1;
+            if let Ok(number) = take(rt, post, LINE, &mut self.share) {
+                self.taken = number;
             }
             if line % BETWEEN_ORDERS_LINES == 0 {
                 signals.order();
@@ -204,12 +206,11 @@ impl<D: Disk, N: Naming> Work<D, N> for Idle<N> {
     ) {}
 }
 
-// What receipt the intake got, and what the station has taken once it is opened again.
+// The last line that the intake took, what receipt it got, and what the station has taken once it is opened again.
 #[derive(Clone, Copy, Debug, PartialEq, Eq)]
 struct Beside {
     taken: u64,
     receipt: u64,
-    fault: Option<PostFault>,
     on_disk: u64,
 }
 
@@ -249,6 +250,7 @@ fn flushed_beside<N: Naming + Send + Sync, R: AllocGlobal + Clock + Log + Thread
         share: third,
         fault,
     } = flusher;
+    check_fault(fault, None)?;
     let LineTaker {
         share,
         taken,
@@ -257,7 +259,6 @@ fn flushed_beside<N: Naming + Send + Sync, R: AllocGlobal + Clock + Log + Thread
     Ok(Beside {
         taken,
         receipt,
-        fault,
         on_disk: on_disk(rt, alloc, post, share, (first.share, second.share, third))?,
     })
 }
@@ -279,7 +280,6 @@ fn lines_are_taken_beside_flushes(rt: HostRuntime) -> Result<(), Fail> {
     let want = Beside {
         taken: 5_000,
         receipt: 5_000,
-        fault: None,
         on_disk: 5_000,
     };
     assert_eq!(rt; beside, want);

@@ -4,7 +4,7 @@ ghost use Rattle.std.specs.List.{All};
 ghost use Rattle.flusher.specs.Post.{IsFor, names_of};
 ghost use Rattle.flusher.specs.Sealed.{IsFlushed};
 
-use crate::shared::{DebtEnding, closed_sums, intake, outcome, peer};
+use crate::shared::{DebtEnding, closed_sums, intake, outcome, peer, take};
 use conn_core::CxnId;
 use disk_model::{Disk, MemDisk};
 use flusher::{Blanks, FeederShare, Free, IntakeShare, Naming, Post, PostFault, PostPeer};
@@ -210,25 +210,6 @@ struct Filled {
     // The number of the line when it is given again.
     number: u64,
     taken: u64,
-}
-
-// Takes a line; if memory is refused, the line is given again.
-fn take<D: Disk, N: Naming, R: Wait>(
-    rt: &R,
-    post: &Post<D, N>,
-    line: &[u8],
-    lines: &mut IntakeShare<N>,
-) -> Result<u64, PostFault> {
-    match post.take_line(rt, line, lines) {
-        Err(PostFault::NoMemory)
-        | Err(
-            PostFault::Station {
-                fault: StationFault::NoMemory,
-                ..
-            },
-        ) => post.take_line(rt, line, lines),
-        taken => taken,
-    }
 }
 
 fn fill<D: Disk + Drop, N: Naming, R: Wait>(

@@ -262,6 +262,19 @@ pub(crate) fn lacks_memory(fault: &PostFault) -> bool {
     )
 }
 
+// Takes a line; if memory is refused, the line is given again.
+pub(crate) fn take<D: Disk, N: Naming, R: Wait>(
+    rt: &R,
+    post: &Post<D, N>,
+    line: &[u8],
+    lines: &mut IntakeShare<N>,
+) -> Result<u64, PostFault> {
+    match post.take_line(rt, line, lines) {
+        Err(fault) if lacks_memory(&fault) => post.take_line(rt, line, lines),
+        taken => taken,
+    }
+}
+
 fn answered_on_disks(
     alloc: Global,
     peers: Vec<ClosedPeer<FuseDisk<MemDisk>>>,
@@ -276,7 +289,7 @@ fn answered_on_disks(
 }
 
 // A fault that is not wanted, as for lack of memory, ends the test.
-fn check_fault(fault: Option<PostFault>, want: Option<PostFault>) -> Result<(), Fail> {
+pub(crate) fn check_fault(fault: Option<PostFault>, want: Option<PostFault>) -> Result<(), Fail> {
     match fault {
         Some(fault) if want != Some(fault) => Err(Fail::from(fault)),
         _ => Ok(()),
