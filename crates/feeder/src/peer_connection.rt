@@ -1,4 +1,6 @@
 // One connection: its protocol state, its socket, and what it holds.
+ghost use Rattle.std.specs.Prelude.{◌≡◌, ◌<◌, ◌≤◌, ◌/◌};
+
 use crate::Spool;
 use crate::close_reason::{CloseReason, ObservedEnd, SessionStage};
 use crate::logging::{log_unread, log_unsent};
@@ -494,15 +496,16 @@ impl PeerConnection {
         }
     }
 
-    /// Hands in the articles that are wanted, until there is enough output. It closes if one can't be read. Returns
-    /// false if the spool is missing: then none is handed in.
+    /// Hands in the articles that are wanted, until there is enough output, half a window of articles at most: so the
+    /// peer works on one half while the other is read. It closes if one can't be read. Returns false if the spool is
+    /// missing: then none is handed in.
     pub fn hand_in<R: Log, S: SpoolDirectory>(
         &mut self,
         rt: &R,
         spool: &mut Spool<S>,
         unread: &mut UnreadPaths,
     ) -> bool {
-        for _ in 0..u64::MAX {
+        for _ in 0..half_of(self.owner.room) {
             if self.conn.output().len() >= OUTPUT_ENOUGH_OCTETS {
                 return true;
             }
@@ -563,6 +566,14 @@ impl PeerConnection {
         self.conn.broken();
         HandInResult::None
     }
+}
+
+// How many articles are half a window of this many debts.
+fn half_of(room: u64) -> u64
+    ensures half { 2 ≤ room → result ≡ room / 2 }
+    ensures one { room < 2 → result ≡ 1 }
+{
+    (room / 2).max(1)
 }
 
 // What became of the article that was to be handed in.

@@ -36,7 +36,7 @@ pub(crate) struct ServiceEnv<'a, S, N: Naming> {
 }
 
 /// Does all that can be done on a connection without waiting. What came goes first: it frees the window, so that one
-/// service turns a window of replies into new articles, and one send.
+/// service turns a window of replies into new articles.
 ///
 /// # Errors
 /// The post's fault, if no flush helps.
