@@ -1,3 +1,4 @@
 pub mod Nowhere
 pub mod OpenFiles
+pub mod Ordered
 pub mod Targets

@@ -1,8 +1,10 @@
 // The intake: the worker that takes the funnel's lines, batch by batch.
 ghost use Rattle.std.specs.Prelude.{◌≡◌, ◌≤◌, IfOk, length, true};
+ghost use Rattle.feed_run.specs.Ordered.{lasts_of};
 
 use crate::countdown::Countdown;
 use crate::nowhere::Nowhere;
+use crate::ordered::OrderedBatches;
 use crate::progress::Progress;
 use crate::run_error::{RunError, is_lost_tape};
 use crate::status_file::StatusFile;
@@ -17,7 +19,6 @@ use mio::Waker;
 use peer_queue::StationFault;
 use recovery::TapeFault;
 use std::alloc::{AllocError, Global};
-use std::collections::VecDeque;
 use std::fs::File;
 use std::io::{self, Write};
 use std::rt::{Clock, Files};
@@ -33,6 +34,9 @@ const AHEAD_MAX_BATCHES: usize = 64;
 // The pause before more lines are looked for at the end of a funnel that is followed.
 const PAUSE_MS: u64 = 200;
 
+// The same while batches are not acknowledged, so that these are reported soon.
+const FLUSH_PAUSE_MS: u64 = 20;
+
 // How often lines that go nowhere are logged.
 const NOWHERE_PERIOD_SECONDS: u64 = 60;
 
@@ -44,14 +48,6 @@ struct Batch {
     last: u64,
     // No line comes after this batch.
     is_last: bool,
-}
-
-// A batch whose flush was ordered.
-#[derive(Clone, Copy)]
-struct Ordered {
-    order: u64,
-    // The number of its last line.
-    last: u64,
 }
 
 /// Takes the funnel's lines, batch by batch, while earlier batches are flushed, and prints `taken N` once a batch is
@@ -89,9 +85,14 @@ impl<F: AllocGlobal + Files<File = File>, W: Write, N: Naming> IntakeWorker<'_, 
         signals: &Signals,
         funnel: &mut Funnel<'_, F>,
     ) -> Result<(), RunError> {
-        let mut ordered = VecDeque::new(self.alloc);
+        let mut ordered = OrderedBatches::new(self.alloc);
         for _ in rt.forever() {
-            let batch = self.take_batch(rt, post, signals, funnel)?;
+            let pause = if ordered.len() > 0 {
+                FLUSH_PAUSE_MS
+            } else {
+                PAUSE_MS
+            };
+            let batch = self.take_batch(rt, post, signals, funnel, pause)?;
             self.order(signals, &batch, &mut ordered)?;
             let most = if batch.is_last { 0 } else { AHEAD_MAX_BATCHES };
             if !self.acknowledge(rt, signals, &mut ordered, most)? {
@@ -114,13 +115,14 @@ impl<F: AllocGlobal + Files<File = File>, W: Write, N: Naming> IntakeWorker<'_, 
     }
 
     // Takes a batch of lines. It is not full if the funnel is silent, at its end or cannot be read on, or if no line
-    // may be taken any more.
+    // may be taken any more. If it has none, since more may be added, this takes `pause` milliseconds.
     fn take_batch<D: Disk, R: Wait + Clock + Log>(
         &mut self,
         rt: &R,
         post: &Post<D, N>,
         signals: &Signals,
         funnel: &mut Funnel<'_, F>,
+        pause: u64,
     ) -> Result<Batch, RunError> {
         let mut batch = Batch {
             count: 0,
@@ -133,7 +135,7 @@ impl<F: AllocGlobal + Files<File = File>, W: Write, N: Naming> IntakeWorker<'_, 
                 Next::Silence => return Ok(batch),
                 Next::Pause => {
                     if batch.count == 0 {
-                        thread::sleep(rt, Duration::from_millis(PAUSE_MS));
+                        thread::sleep(rt, Duration::from_millis(pause));
                     }
                     return Ok(batch);
                 }
@@ -157,11 +159,16 @@ impl<F: AllocGlobal + Files<File = File>, W: Write, N: Naming> IntakeWorker<'_, 
 
     // What comes next in the funnel: its end also if it cannot be read on, which is reported, or if no line may be
     // taken any more.
-    fn next_line<R: Log>(&mut self, rt: &R, signals: &Signals, funnel: &mut Funnel<'_, F>) -> Next {
+    fn next_line<R: Clock + Log>(
+        &mut self,
+        rt: &R,
+        signals: &Signals,
+        funnel: &mut Funnel<'_, F>,
+    ) -> Next {
         if signals.is_stopped() || signals.has_lost_tape() {
             return Next::End;
         }
-        match funnel.next() {
+        match funnel.next(rt) {
             Ok(next) => next,
             Err(fault) => {
                 RunError::funnel(rt, self.alloc, funnel.path(), fault).add_to(&mut self.end);
@@ -247,17 +254,13 @@ impl<F: AllocGlobal + Files<File = File>, W: Write, N: Naming> IntakeWorker<'_, 
         &self,
         signals: &Signals,
         batch: &Batch,
-        ordered: &mut VecDeque<Ordered>,
+        ordered: &mut OrderedBatches,
     ) -> Result<(), AllocError> {
         if batch.count == 0 {
             return Ok(());
         }
         self.wake();
-        ordered.push_back(Ordered {
-            order: signals.order(),
-            last: batch.last,
-        })?;
-        Ok(())
+        ordered.push(signals.order(), batch.last)
     }
 
     // Prints `taken N` for each batch that is acknowledged, oldest first, and waits until at most `most` are not. False
@@ -266,32 +269,34 @@ impl<F: AllocGlobal + Files<File = File>, W: Write, N: Naming> IntakeWorker<'_, 
         &mut self,
         rt: &R,
         signals: &Signals,
-        ordered: &mut VecDeque<Ordered>,
+        ordered: &mut OrderedBatches,
         most: usize,
     ) -> Result<bool, RunError>
-        ensures within { IfOk result (λ goes_on. goes_on ≡ true → length ordered.new.items ≤ most) }
+        ensures within { IfOk result
+            (λ goes_on. goes_on ≡ true → length (lasts_of ordered.new) ≤ most) }
     {
         for _ in rt.forever() {
             let waits = ordered.len() > most;
-            let Some(oldest) = ordered.front_mut() else {
+            let Some(order) = ordered.oldest_order() else {
                 return Ok(true);
             };
             let receipt = if waits {
-                signals.receipt(rt, oldest.order)
+                signals.receipt(rt, order)
             } else {
                 signals.latest_receipt(rt)
             };
-            match receipt {
-                Some(receipt) if oldest.last <= receipt.number() => {
-                    let last = oldest.last;
-                    ordered.pop_front();
+            let Some(receipt) = receipt else {
+                return Ok(!waits);
+            };
+            match ordered.take_covered(receipt.number()) {
+                Some(last) => {
                     if let Err(error) = self.print_taken(last, &receipt) {
                         return Err(RunError::output(self.alloc, &error));
                     }
                 }
                 // This flush began before the batch's last line was taken.
-                Some(_) if waits => oldest.order = signals.order(),
-                _ => return Ok(!waits),
+                None if waits => ordered.order_again(signals.order()),
+                None => return Ok(true),
             }
         }
         unreachable!()

@@ -12,6 +12,7 @@ mod disks;
 mod intake_worker;
 mod nowhere;
 mod open_files;
+mod ordered;
 mod progress;
 mod run;
 mod run_error;

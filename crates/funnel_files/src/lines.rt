@@ -5,14 +5,14 @@ use crate::segment_directory::SegmentDirectory;
 use crate::segmented::SegmentedFunnel;
 use std::fs::{self, File};
 use std::net::Net;
-use std::rt::Files;
+use std::rt::{Clock, Files};
 
 /// What comes next in a funnel.
 #[derive(Drop)]
 pub enum Next {
     /// A line without its LF.
     Line(Vec<u8>),
-    /// Nothing came for a tenth of a second.
+    /// Nothing has come, and it has been waited for a tenth of a second in all since the last `Silence`.
     Silence,
     /// The funnel is at its end for now, and more may be added.
     Pause,
@@ -79,9 +79,9 @@ impl<'a, F: AllocGlobal + Files<File = File>> Funnel<'a, F> {
     /// # Errors
     /// `Failed` with `UnexpectedEof` if a file that is followed has become shorter than what was read of it; for a
     /// directory `NoNumber`, `NoFile`, `Short`, `Shrunk`, `Misfit` and `Segment`; the system's error.
-    pub fn next(&mut self) -> Result<Next, FunnelFault> {
+    pub fn next<R: Clock>(&mut self, rt: &R) -> Result<Next, FunnelFault> {
         match &mut self.lines {
-            Lines::File(file) => Ok(file.next()?),
+            Lines::File(file) => Ok(file.next(rt)?),
             Lines::Directory(segments) => segments.next(),
         }
     }

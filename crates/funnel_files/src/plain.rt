@@ -5,9 +5,10 @@ use crate::watch::Watch;
 use std::fs::File;
 use std::io::{self, ErrorKind};
 use std::net::Net;
-use std::rt::Files;
+use std::rt::{Clock, Files};
+use std::time::{Duration, Instant};
 
-// The longest single wait for a silent funnel, in milliseconds.
+// How long a funnel is waited for in all before it is silent.
 const SILENCE_MAX_MS: u64 = 100;
 
 /// The lines of a file, a pipe or the like.
@@ -16,6 +17,8 @@ pub(crate) struct PlainFunnel {
     lines: LineFile<File>,
     // `None` if reading never has to wait.
     watch: Option<Watch>,
+    // How long it has been waited for since it was silent.
+    waited: Duration,
     is_followed: bool,
 }
 
@@ -39,6 +42,7 @@ impl PlainFunnel {
         let mut funnel = PlainFunnel {
             lines: LineFile::new(alloc, file)?,
             watch,
+            waited: Duration::ZERO,
             is_followed,
         };
         if funnel.watch.is_none() || lines > 0 {
@@ -47,18 +51,16 @@ impl PlainFunnel {
         Ok(funnel)
     }
 
-    /// What comes next.
+    /// What comes next; the clock is read only if it has to be waited for.
     ///
     /// # Errors
     /// The system's error; `UnexpectedEof` if a file that is followed has become shorter than what was read of it.
-    pub fn next(&mut self) -> io::Result<Next> {
+    pub fn next<R: Clock>(&mut self, rt: &R) -> io::Result<Next> {
         for _ in 0..u64::MAX {
             if let Some(line) = self.lines.next_read() {
                 return Ok(Next::Line(line));
             }
-            if let Some(watch) = &mut self.watch
-                && !watch.wait(SILENCE_MAX_MS)?
-            {
+            if !self.wait(rt)? {
                 return Ok(Next::Silence);
             }
             if !self.lines.read_piece()? {
@@ -66,6 +68,22 @@ impl PlainFunnel {
             }
         }
         Ok(Next::End)
+    }
+
+    // Waits until it can be read. False if it cannot, and has been waited for a tenth of a second since the last time.
+    fn wait<R: Clock>(&mut self, rt: &R) -> io::Result<bool> {
+        let Some(watch) = &mut self.watch else {
+            return Ok(true);
+        };
+        let left = Duration::from_millis(SILENCE_MAX_MS).saturating_sub(self.waited);
+        let began = Instant::now(rt)?;
+        let is_there = watch.wait(left)?;
+        self.waited = if is_there {
+            self.waited.saturating_add(began.elapsed(rt)?)
+        } else {
+            Duration::ZERO
+        };
+        Ok(is_there)
     }
 
     // What its end means: more can be added only to a plain file.

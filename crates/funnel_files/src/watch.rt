@@ -43,18 +43,17 @@ impl Watch {
         }
     }
 
-    /// Waits until something can be read or the end has come, `at_most` milliseconds at most. Returns whether it has.
+    /// Waits until something can be read or the end has come, so long at most. Returns whether it has.
     ///
     /// # Errors
     /// The system's error.
-    pub fn wait(&mut self, at_most: u64) -> io::Result<bool> {
+    pub fn wait(&mut self, at_most: Duration) -> io::Result<bool> {
         // Only after this call is what was there before the last wait reported again.
         let mut source = SourceFd(&self.descriptor);
         self.poll
             .registry()
             .reregister(&mut source, TOKEN, Interest::READABLE)?;
-        self.poll
-            .poll(&mut self.events, Some(Duration::from_millis(at_most)))?;
+        self.poll.poll(&mut self.events, Some(at_most))?;
         Ok(!self.events.is_empty())
     }
 }
