@@ -4,7 +4,9 @@ ghost use Rattle.std.specs.List.{All};
 ghost use Rattle.flusher.specs.Post.{IsFor, names_of};
 ghost use Rattle.flusher.specs.Sealed.{IsFlushed};
 
-use crate::shared::{DebtEnding, counted_on_disks, fused_intake, fused_peer, outcome, take};
+use crate::shared::{
+    DebtEnding, counted_on_disks, fused_intake, fused_peer, lacks_memory, outcome, take,
+};
 use conn_core::CxnId;
 use disk_model::{FuseDisk, MemDisk};
 use flusher::{
@@ -78,7 +80,8 @@ struct KeptNotes {
 fn flush<N: Naming, R: Wait>(rt: &R, post: &Post<FuseDisk<MemDisk>, N>) -> Result<u64, PostFault> {
     match post.flush_all(rt, &Free) {
         Ok(receipt) => Ok(receipt.number()),
-        Err(_) => Ok(post.flush_all(rt, &Free)?.number()),
+        Err(fault) if lacks_memory(&fault) => Ok(post.flush_all(rt, &Free)?.number()),
+        Err(fault) => Err(fault),
     }
 }
 
