@@ -1,17 +1,19 @@
 //! Laws of stations. Each is the contract of a function that does what the law is about.
 ghost use Rattle.std.specs.Prelude.{◌≡◌, ◌≢◌, ◌↔◌, ◌≤◌, ◌+◌, ◌-◌, ◌^◌, ℕ, length};
 ghost use Rattle.std.specs.Prelude.{IfErr, IfOk};
+ghost use Rattle.ledger_core.specs.Shape.{keys_sized};
 ghost use Rattle.ledger_core.specs.State.{keys};
 ghost use Rattle.recovery.specs.Image.{EachTape, Survives};
 ghost use Rattle.recovery.specs.Notes.{History, recovered};
 ghost use Rattle.recovery.specs.Words.{OneHasRisen};
 ghost use Rattle.peer_queue.specs.DebtPlace.{AreRising, all_ready, placed};
+ghost use Rattle.peer_queue.specs.Front.{front_shape, places_of as front_places};
 ghost use Rattle.peer_queue.specs.Refusals.{Tells};
 ghost use Rattle.peer_queue.specs.Words.{IsBroken, StandsFor, ledger_of, faults_of, limits_of, pending_of};
 ghost use Rattle.peer_queue.specs.Words.{places_of};
 
 use crate::fault::station_fault;
-use crate::{Station, StationFault};
+use crate::{Front, Station, StationFault};
 use disk_model::Disk;
 use ledger_core::Key;
 use recovery::{RefusedTape, TapeFault};
@@ -23,6 +25,14 @@ pub fn each_number_has_one_place<D: Disk>(station: &Station<D>)
     ensures rising { AreRising (places_of station.now) }
 {
     let _ = station.index.unheld_from(Key::new(0, 0));
+}
+
+/// The same of a front: each key that is owed has one place, and no other key has any.
+pub fn each_number_has_one_place_at(front: &Front)
+    ensures placed { placed (front_places front.now) ≡ keys_sized (front_shape front.now).sizes }
+    ensures rising { AreRising (front_places front.now) }
+{
+    let _ = front.index.unheld_from(Key::new(0, 0));
 }
 
 /// A station whose flush answered Ok owes the same once its disks are opened again, and all of it is ready.

@@ -5,7 +5,8 @@
 //! not Sync: whoever shares it puts a lock round it. The crates above use `Station`: its ledger as a
 //! history of notes (`specs/Words.antt`, `StandsFor`), so that the tape's stop theorem is the station's, the places of
 //! the debts as plain data (`specs/DebtPlace.antt`), and what an outcome of a connection makes of both
-//! (`specs/Settled.antt`, `Finishes`).
+//! (`specs/Settled.antt`, `Finishes`). Once it is split they use the tape and its `Front`, by the same words
+//! (`specs/Front.antt`, `specs/FrontCalls.antt`).
 #![tactic(auto)]
 
 mod fault;
@@ -21,7 +22,7 @@ mod wait;
 
 pub use fault::StationFault;
 pub use front::Front;
-pub use laws::{each_number_has_one_place, reopened};
+pub use laws::{each_number_has_one_place, each_number_has_one_place_at, reopened};
 pub use limits::{Limits, Owed, Shed};
 pub use settled::{Settled, deferred_until, key_in};
 pub use station::Station;
