@@ -2,7 +2,10 @@
 ghost use Rattle.std.specs.Prelude.{◌≡◌, ◌≤◌, ◌++◌, []};
 ghost use Rattle.std.specs.Vec.{vec_capacity};
 ghost use Rattle.crossbeam_queue.specs.Passes.{view, ruled_capacity};
-ghost use Rattle.note_queue.specs.Folds.{Folds};
+ghost use Rattle.ledger_core.specs.State.{after};
+ghost use Rattle.peer_queue.specs.Front.{unsent_of};
+ghost use Rattle.recovery.specs.Words.{ledger_of};
+ghost use Rattle.note_queue.specs.Folds.{Folds, left_at};
 ghost use Rattle.note_queue.specs.Relay.{IsAt};
 ghost use Rattle.note_queue.specs.Words.{front_of, kept_of, sending, taking, tape_of};
 
@@ -30,8 +33,8 @@ pub struct Joined<D: Disk> {
 }
 
 /// Joins the two ends of a queue, once nobody else uses it. What the queue holds is taken out, into a Vec that has room
-/// for it. The tape's ledger, followed by the kept note, the queue's notes and those that were not sent, has the shape
-/// of the front's.
+/// for it. The tape's ledger, followed by the kept note, the queue's notes and those that were not sent, is the ledger
+/// at the split followed by all notes of the sender, and has the front's shape.
 pub fn join<D: Disk, R: Wait>(
     rt: &R,
     queue: &NoteQueue,
@@ -46,9 +49,12 @@ pub fn join<D: Disk, R: Wait>(
     // What was sent is what was received, followed by what the queue held, in order and once.
     ensures order { ((view (sending sender)).sent_on ≡ (view (taking side)).got_on)
         × ((view (sending sender)).sent ≡ (view (taking side)).got ++ result.queued.items) }
+    ensures ledger { after (ledger_of result.tape) (left_at result)
+        ≡ after (view (sending sender)).sent_on
+        ((view (sending sender)).sent ++ unsent_of result.front) }
     ensures folds { Folds result }
-    ensures front { result.front ≡ front_of sender }
-    ensures tape { (result.tape ≡ tape_of side) × (result.kept ≡ kept_of side) }
+    ensures ends { (result.front ≡ front_of sender) × (result.tape ≡ tape_of side)
+        × (result.kept ≡ kept_of side) }
 {
     let Sender { front, pass, .. } = sender;
     let Left { tape, kept, queued } = side.join(rt, queue, pass, room);
