@@ -11,8 +11,8 @@ use recovery::{Flushed, TapeFault};
 use std::rt::HostRuntime;
 use std::sync::{Mutex, Wait};
 use std::test::Fail;
-use std::thread;
 use std::thread::Threads;
+use std::{mem, thread};
 
 const LINES: u64 = 5000;
 
@@ -21,6 +21,31 @@ const SETTLED_LINES: u64 = 3000;
 
 // How often each looks for the other at most, so that the test ends.
 const LOOKS_MAX: u32 = 1_000_000;
+
+// What one thread has not heard yet of the other.
+#[derive(Clone, Copy)]
+enum News {
+    Nothing,
+    // The flusher's last flush.
+    Flushed(Flushed),
+    // One of them has ended early: the other waits for it in vain.
+    Ended,
+}
+
+impl News {
+    fn take(&mut self) -> News {
+        mem::replace(self, News::Nothing)
+    }
+
+    // Tells the sender of a flush; false if the sender has ended.
+    fn tell(&mut self, flushed: Flushed) -> bool {
+        if let News::Ended = self {
+            return false;
+        }
+        *self = News::Flushed(flushed);
+        true
+    }
+}
 
 #[test]
 fn what_was_settled_is_on_the_tape(rt: HostRuntime) -> Result<(), Fail> {
@@ -41,7 +66,7 @@ fn what_was_settled_is_on_the_tape(rt: HostRuntime) -> Result<(), Fail> {
 }
 
 // One thread flushes while another owes all lines; returns both ends, and how many lines the sender heard to be
-// settled.
+// settled. The error is that of the one that ended early.
 fn worked<R: Threads + Wait + Sync>(
     rt: &R,
     relay: Relay<MemDisk>,
@@ -54,8 +79,8 @@ fn worked<R: Threads + Wait + Sync>(
         side,
         ..
     } = relay;
-    let last: Mutex<Option<Flushed>> = Mutex::new(None);
-    let (side, noted) = both(rt, &queue, sender, side, token, id, &last);
+    let news = Mutex::new(News::Nothing);
+    let (side, noted) = both(rt, &queue, sender, side, token, id, &news);
     let (sender, told) = noted?;
     let side = side?;
     let relay = Relay {
@@ -73,7 +98,7 @@ fn both<R: Threads + Wait + Sync>(
     side: Side<MemDisk>,
     token: &Token,
     id: &MsgId,
-    last: &Mutex<Option<Flushed>>,
+    news: &Mutex<News>,
 ) -> (
     Result<Side<MemDisk>, TapeFault>,
     Result<(Sender, u64), Fail>,
@@ -88,12 +113,31 @@ fn both<R: Threads + Wait + Sync>(
         move || -> Result<Side<MemDisk>, TapeFault>
             requires { IsAt queue.now (taking side) }
             ensures { IfOk result (λ side. IsAt queue.entry.now (taking side)) }
-        { flushed(rt, queue, side, last) },
+        { flush_thread(rt, queue, side, news) },
         move || -> Result<(Sender, u64), Fail>
             requires { IsAt queue.now (sending sender) }
             ensures { IfOk result (λ noted. IsAt queue.entry.now (sending noted.0)) }
-        { noted(rt, queue, sender, token, id, last) },
+        { send_thread(rt, queue, sender, token, id, news) },
     )
+}
+
+// Owes all lines, as below; if that ends early, the flusher hears of it.
+fn send_thread<R: Wait>(
+    rt: &R,
+    queue: &NoteQueue,
+    sender: Sender,
+    token: &Token,
+    id: &MsgId,
+    news: &Mutex<News>,
+) -> Result<(Sender, u64), Fail>
+    requires { IsAt queue.now (sending sender) }
+    ensures { IfOk result (λ noted. IsAt queue.now (sending noted.0)) }
+{
+    let ended = noted(rt, queue, sender, token, id, news);
+    if ended.is_err() {
+        *news.lock(rt) = News::Ended;
+    }
+    ended
 }
 
 // Owes all lines, sends them, and hears what was flushed until that is enough; returns the sender, and what it heard
@@ -104,7 +148,7 @@ fn noted<R: Wait>(
     sender: Sender,
     token: &Token,
     id: &MsgId,
-    last: &Mutex<Option<Flushed>>,
+    news: &Mutex<News>,
 ) -> Result<(Sender, u64), Fail>
     requires { IsAt queue.now (sending sender) }
     ensures { IfOk result (λ noted. IsAt queue.now (sending noted.0)) }
@@ -114,41 +158,65 @@ fn noted<R: Wait>(
         sender.owe(number, token, id)?;
         sender.send(rt, queue)?;
     }
-    let told = heard_enough(rt, queue, &mut sender, last)?;
+    let told = heard_enough(rt, queue, &mut sender, news)?;
     Ok((sender, told))
 }
 
-// Sends, and hears what was flushed, until that is enough.
+// Sends, and hears what was flushed, until that is enough or the flusher has ended; returns what it heard last.
 fn heard_enough<R: Wait>(
     rt: &R,
     queue: &NoteQueue,
     sender: &mut Sender,
-    last: &Mutex<Option<Flushed>>,
+    news: &Mutex<News>,
 ) -> Result<u64, Fail>
     requires { IsAt queue.now (sending sender.old) }
     ensures { IsAt queue.now (sending sender.new) }
 {
+    let mut told = 0;
     for _ in 0..LOOKS_MAX {
         sender.send(rt, queue)?;
-        if let Some(flushed) = last.lock(rt).take() {
-            if !sender.settled(&flushed) {
-                return Err(Fail::from("a flush of this tape"));
+        let heard = news.lock(rt).take();
+        match heard {
+            News::Nothing => {}
+            News::Flushed(flushed) => {
+                if !sender.settled(&flushed) {
+                    return Err(Fail::from("a flush of this tape"));
+                }
+                told = flushed.count();
             }
-            if flushed.count() >= SETTLED_LINES {
-                return Ok(flushed.count());
-            }
+            News::Ended => return Ok(told),
+        }
+        if told >= SETTLED_LINES {
+            return Ok(told);
         }
         thread::yield_now();
     }
     Err(Fail::from("enough that is settled"))
 }
 
-// Takes what comes and flushes it, until enough is on the tape.
+// Takes what comes and flushes it, as below; if that ends early, the sender hears of it.
+fn flush_thread<R: Wait>(
+    rt: &R,
+    queue: &NoteQueue,
+    side: Side<MemDisk>,
+    news: &Mutex<News>,
+) -> Result<Side<MemDisk>, TapeFault>
+    requires { IsAt queue.now (taking side) }
+    ensures { IfOk result (λ side. IsAt queue.now (taking side)) }
+{
+    let ended = flushed(rt, queue, side, news);
+    if ended.is_err() {
+        *news.lock(rt) = News::Ended;
+    }
+    ended
+}
+
+// Takes what comes and flushes it, until enough is on the tape or the sender has ended.
 fn flushed<R: Wait>(
     rt: &R,
     queue: &NoteQueue,
     side: Side<MemDisk>,
-    last: &Mutex<Option<Flushed>>,
+    news: &Mutex<News>,
 ) -> Result<Side<MemDisk>, TapeFault>
     requires { IsAt queue.now (taking side) }
     ensures { IfOk result (λ side. IsAt queue.now (taking side)) }
@@ -157,8 +225,7 @@ fn flushed<R: Wait>(
     for _ in 0..LOOKS_MAX {
         side.pull(rt, queue)?;
         let flushed = side.flush()?;
-        *last.lock(rt) = Some(flushed);
-        if flushed.count() >= SETTLED_LINES {
+        if !news.lock(rt).tell(flushed) || flushed.count() >= SETTLED_LINES {
             break;
         }
         thread::yield_now();
