@@ -1,8 +1,8 @@
 //! The fronts and the tapes of all peers, each under a lock of its own, what is counted of them, and the flusher.
 //!
 //! May touch the disks of the tapes, and wait for locks.
-//! The crates above use `Post`: each call locks one front, or one tape. What the threads count is kept by six token
-//! ledgers (`share.rt` says what those are).
+//! The crates above use `Post`: no call of it syncs a disk while it has the lock of a front. What the threads count is
+//! kept by six token ledgers (`share.rt` says what those are).
 #![tactic(auto)]
 
 mod calls;
