@@ -1,9 +1,9 @@
 // What a disk keeps, which images a stop leaves of it, and a disk that fails after some calls. The disks of journals
 // and tapes are made here too.
-use crate::answers::assert_answer;
+use crate::answers::{assert_answer, assert_call};
 use crate::planned_file::{Plan, PlannedFile};
 use disk_model::{Choice, Disk, DiskFault, DiskFile, FileDisk, FlakyDisk, FuseDisk, MemDisk};
-use std::alloc::Global;
+use std::alloc::{AllocError, Global};
 use std::process::Abort;
 use std::test::Fail;
 
@@ -44,6 +44,19 @@ fn disk_after(alloc: Global, calls: &[DiskCall<'_>]) -> Result<MemDisk, Fail> {
 // A disk of these octets, all of which survive a stop.
 pub(crate) fn disk_of(alloc: Global, octets: &[u8]) -> Result<MemDisk, Fail> {
     disk_after(alloc, &[DiskCall::Write(0, octets), DiskCall::Sync])
+}
+
+// A disk in memory fails only if memory is refused: then the test ends.
+pub(crate) fn check_memory(disk: &MemDisk) -> Result<(), Fail> {
+    if 0 < disk.faults() {
+        return Err(Fail::from(AllocError));
+    }
+    Ok(())
+}
+
+pub(crate) fn check_both((first, second): &(MemDisk, MemDisk)) -> Result<(), Fail> {
+    check_memory(first)?;
+    check_memory(second)
 }
 
 // The disks of a tape of one segment, which is that of the first.
@@ -197,11 +210,12 @@ fn bit_63_tells_of_each_operation_from_63_on(rt: HostRuntime) -> Result<(), Fail
 type Answered = (DiskCall<'static>, Result<(), DiskFault>, u64);
 
 // Each call answers as is wanted, and leaves this many faults.
-fn assert_calls<A: Abort, D: Disk>(rt: &A, disk: &mut D, calls: &[Answered]) {
+fn assert_calls<A: Abort, D: Disk>(rt: &A, disk: &mut D, calls: &[Answered]) -> Result<(), Fail> {
     for (at, (call, want, faults)) in calls.iter().enumerate() {
-        assert_answer(rt, at, &make(disk, *call), want);
+        assert_call(rt, at, &make(disk, *call), want)?;
         assert_faults(rt, at, disk, *faults);
     }
+    Ok(())
 }
 
 #[test]
@@ -214,7 +228,7 @@ fn a_fuse_passes_its_calls_and_no_more(rt: HostRuntime) -> Result<(), Fail> {
         (DiskCall::Sync, Err(DiskFault), 3),
     ];
     let mut disk = FuseDisk::new(MemDisk::new(rt.alloc()), 2);
-    assert_calls(&rt, &mut disk, CALLS);
+    assert_calls(&rt, &mut disk, CALLS)?;
     assert_answer(&rt, CALLS.len(), &disk.len(), &2);
     let mut within = disk.into_inner();
     assert_faults(&rt, CALLS.len(), &within, 0);
@@ -233,7 +247,7 @@ fn a_flaky_disk_fails_one_call(rt: HostRuntime) -> Result<(), Fail> {
         (DiskCall::Cut(1), Ok(()), 1),
     ];
     let mut disk = FlakyDisk::new(MemDisk::new(rt.alloc()), 1);
-    assert_calls(&rt, &mut disk, CALLS);
+    assert_calls(&rt, &mut disk, CALLS)?;
     let mut within = disk.into_inner();
     assert_faults(&rt, CALLS.len(), &within, 0);
     assert_octets(&rt, rt.alloc(), CALLS.len(), &mut within, &[7])
@@ -248,11 +262,13 @@ fn assert_failing<A: Abort>(rt: &A, alloc: Global, at: usize, row: Failing) -> R
     let (calls, kept, answered, want) = row;
     let file = PlannedFile::new(alloc, &[], Plan::failing(calls, kept))?;
     let mut disk = FileDisk::new(file);
-    assert_calls(rt, &mut disk, answered);
-    assert_octets(rt, alloc, at, &mut disk, want)?;
-    let synced = FileDisk::new(disk.into_inner()).sync();
-    assert_answer(rt, at, &synced, &Ok(()));
-    Ok(())
+    assert_calls(rt, &mut disk, answered)?;
+    let octets = octets_of(alloc, &mut disk)?;
+    let file = disk.into_inner();
+    file.check_memory()?;
+    assert_answer(rt, at, &octets.as_slice(), &want);
+    let synced = FileDisk::new(file).sync();
+    assert_call(rt, at, &synced, &Ok(()))
 }
 
 #[test]
@@ -336,6 +352,6 @@ fn a_disk_is_a_file_and_a_file_is_a_disk(rt: HostRuntime) -> Result<(), Fail> {
     ];
     let within = FlakyDisk::new(MemDisk::new(rt.alloc()), 1);
     let mut disk = FileDisk::new(DiskFile(within));
-    assert_calls(&rt, &mut disk, CALLS);
+    assert_calls(&rt, &mut disk, CALLS)?;
     assert_octets(&rt, rt.alloc(), CALLS.len(), &mut disk, &[7, 8, 5])
 }

@@ -1,6 +1,6 @@
 // Tapes on two disks of which one call fails, each call in turn.
 use crate::answers::assert_answer;
-use crate::disks::disks_of;
+use crate::disks::{check_both, disks_of};
 use crate::planned_file::{Plan, PlannedFile};
 use crate::rotations::ROTATED;
 use crate::samples::Sample;
@@ -87,17 +87,14 @@ fn work<A: Abort, D: Disk>(
 }
 
 // The tape of these disks, which must open, or be handed back for a disk's fault.
-fn opened_or_back<A: Abort, D: Disk + Drop>(
-    rt: &A,
+fn opened_or_back<D: Disk + Drop>(
     alloc: Global,
     disks: (D, D),
-) -> Result<Tape<D>, (D, D)> {
+) -> Result<Result<Tape<D>, (D, D)>, Fail> {
     match opened(alloc, disks) {
-        Ok(tape) => Ok(tape),
-        Err((fault, disks)) => {
-            assert_answer(rt, 0, &fault, &TapeFault::Disk);
-            Err(disks)
-        }
+        Ok(tape) => Ok(Ok(tape)),
+        Err((TapeFault::Disk, disks)) => Ok(Err(disks)),
+        Err((fault, _)) => Err(Fail::from(fault)),
     }
 }
 
@@ -121,14 +118,16 @@ fn meets_fault<A: Abort>(
     calls: CallsLeft,
 ) -> Result<bool, Fail> {
     let disks = flaky(disks_of(alloc, (first, second))?, calls);
-    let mut tape = match opened_or_back(rt, alloc, disks) {
+    let mut tape = match opened_or_back(alloc, disks)? {
         Ok(tape) => tape,
         Err(disks) => opened_again(alloc, disks)?,
     };
     let counts = work(rt, alloc, &mut tape, generation)?;
     let (a, b) = tape.into_disks();
     let met = 0 < a.faults() || 0 < b.faults();
-    assert_prefixes(rt, alloc, &(a.into_inner(), b.into_inner()), counts)?;
+    let disks = (a.into_inner(), b.into_inner());
+    check_both(&disks)?;
+    assert_prefixes(rt, alloc, &disks, counts)?;
     Ok(met)
 }
 
@@ -196,13 +195,12 @@ fn opened_anew(disk: FileDisk<PlannedFile>) -> Result<FileDisk<PlannedFile>, Fai
 
 // The tape of files of these octets that follow these plans: as above, but files are opened a second time as the next
 // process opens them.
-fn tape_of_files<A: Abort>(
-    rt: &A,
+fn tape_of_files(
     alloc: Global,
     octets: (&[u8], &[u8]),
     plans: (Plan, Plan),
 ) -> Result<Tape<FileDisk<PlannedFile>>, Fail> {
-    match opened_or_back(rt, alloc, files_of(alloc, octets, plans)?) {
+    match opened_or_back(alloc, files_of(alloc, octets, plans)?)? {
         Ok(tape) => Ok(tape),
         Err((a, b)) => opened_again(alloc, (opened_anew(a)?, opened_anew(b)?)),
     }
@@ -226,10 +224,12 @@ fn file_meets_fault<A: Abort>(
     (first, second, generation): RotationRow<'_>,
     plans: (Plan, Plan),
 ) -> Result<bool, Fail> {
-    let mut tape = tape_of_files(rt, alloc, (first, second), plans)?;
+    let mut tape = tape_of_files(alloc, (first, second), plans)?;
     let counts = work(rt, alloc, &mut tape, generation)?;
     let (a, b) = tape.into_disks();
     let (a, b) = (a.into_inner(), b.into_inner());
+    a.check_memory()?;
+    b.check_memory()?;
     assert_prefix(rt, alloc, (a.octets(), b.octets()), counts)?;
     assert_prefix(rt, alloc, (a.durable(), b.durable()), counts)?;
     Ok(!a.is_sound() && !b.is_sound())

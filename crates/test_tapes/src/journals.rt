@@ -1,6 +1,6 @@
 // Segments that are read, and journals at which steps are taken.
-use crate::answers::assert_answer;
-use crate::disks::{assert_faults, assert_octets, disk_of};
+use crate::answers::{assert_answer, assert_call};
+use crate::disks::{assert_faults, assert_octets, check_memory, disk_of};
 use crate::planned_file::{Plan, PlannedFile};
 use crate::read_only::ReadOnly;
 use disk_model::{Disk, FileDisk, FlakyDisk, FuseDisk};
@@ -57,6 +57,14 @@ fn opened<D: Disk + Drop>(
     }
 }
 
+// The same of a disk that must be opened.
+fn opened_well<D: Disk + Drop>(alloc: Global, disk: D) -> Result<(Vec<Vec<u8>>, Journal<D>), Fail> {
+    match opened(alloc, disk) {
+        Ok(found) => Ok(found),
+        Err((fault, _)) => Err(Fail::from(fault)),
+    }
+}
+
 // The payloads of a disk on which nothing is written, and the disk as it was read.
 fn read<D: Disk + Drop>(alloc: Global, disk: D) -> Result<(Vec<Vec<u8>>, D), Fail> {
     match Journal::read(alloc, disk) {
@@ -100,11 +108,9 @@ fn assert_part<A: Abort, D: Disk>(
     want: Result<&[u8], ReadFault>,
 ) -> Result<(), Fail> {
     match journal.part_at(offset, from, most) {
-        Ok(part) => assert_answer(rt, at, &Ok(part.as_slice()), &want),
-        Err(ReadFault::NoMemory) => return Err(Fail::from(ReadFault::NoMemory)),
-        Err(fault) => assert_answer(rt, at, &Err(fault), &want),
+        Ok(part) => assert_call(rt, at, &Ok(part.as_slice()), &want),
+        Err(fault) => assert_call(rt, at, &Err(fault), &want),
     }
-    Ok(())
 }
 
 fn take<A: Abort, D: Disk>(
@@ -115,18 +121,12 @@ fn take<A: Abort, D: Disk>(
     step: JournalStep,
 ) -> Result<(), Fail> {
     match step {
-        JournalStep::Append(count, want) => assert_answer(
-            rt,
-            at,
-            &append(alloc, journal, count)?,
-            &want,
-        ),
-        JournalStep::ReadBack(offset, want) => assert_answer(
-            rt,
-            at,
-            &read_back(journal, offset)?,
-            &want,
-        ),
+        JournalStep::Append(count, want) => {
+            assert_call(rt, at, &append(alloc, journal, count)?, &want)?
+        }
+        JournalStep::ReadBack(offset, want) => {
+            assert_call(rt, at, &read_back(journal, offset)?, &want)?
+        }
         JournalStep::ReadPart(offset, from, most, want) => {
             assert_part(rt, at, journal, (offset, from, most), want)?
         }
@@ -145,10 +145,7 @@ fn run<A: Abort, D: Disk + Drop>(
     disk: D,
     steps: &[JournalStep],
 ) -> Result<D, Fail> {
-    let mut journal = match opened(alloc, disk) {
-        Ok((_, journal)) => journal,
-        Err((fault, _)) => return Err(Fail::from(fault)),
-    };
+    let (_, mut journal) = opened_well(alloc, disk)?;
     for (at, step) in steps.iter().enumerate() {
         take(rt, alloc, &mut journal, at, *step)?;
     }
@@ -178,9 +175,7 @@ fn a_segment_is_read(rt: HostRuntime) -> Result<(), Fail> {
         assert_payloads(&rt, &found, payloads);
         assert_faults(&rt, at, &disk, 0);
         assert_octets(&rt, alloc, at, &mut disk, segment)?;
-        let Ok((found, journal)) = opened(alloc, disk_of(alloc, segment)?) else {
-            return Err(Fail::from("a segment"));
-        };
+        let (found, journal) = opened_well(alloc, disk_of(alloc, segment)?)?;
         assert_payloads(&rt, &found, payloads);
         assert_answer(&rt, at, &journal.bytes(), bytes);
     }
@@ -190,6 +185,7 @@ fn a_segment_is_read(rt: HostRuntime) -> Result<(), Fail> {
 fn fault_of<D: Disk + Drop>(alloc: Global, disk: D) -> Result<(JournalFault, D), Fail> {
     match opened(alloc, disk) {
         Ok(_) => Err(Fail::from("opened")),
+        Err((JournalFault::NoMemory, _)) => Err(Fail::from(JournalFault::NoMemory)),
         Err(refused) => Ok(refused),
     }
 }
@@ -346,8 +342,13 @@ fn parts_read(
     calls: u64,
 ) -> Result<usize, Fail> {
     let disk = FuseDisk::new(disk_of(alloc, segment)?, calls);
-    let Ok((_, mut journal)) = opened(alloc, disk) else {
-        return Ok(0);
+    let mut journal = match opened(alloc, disk) {
+        Ok((_, journal)) => journal,
+        Err((JournalFault::Disk, disk)) => {
+            check_memory(&disk.into_inner())?;
+            return Ok(0);
+        }
+        Err((fault, _)) => return Err(Fail::from(fault)),
     };
     journal.read_ahead(piece)?;
     for (count, (offset, from, most)) in parts.iter().enumerate() {
@@ -423,8 +424,13 @@ fn parts_cost_few_calls(rt: HostRuntime) -> Result<(), Fail> {
 // of which each moves at most 1,024 octets.
 fn part_of_long_record(alloc: Global, segment: &[u8], calls: u64) -> Result<(bool, bool), Fail> {
     let file = PlannedFile::new(alloc, segment, Plan::bounded(1_024, calls))?;
-    let Ok((_, mut journal)) = opened(alloc, FileDisk::new(file)) else {
-        return Ok((false, false));
+    let mut journal = match opened(alloc, FileDisk::new(file)) {
+        Ok((_, journal)) => journal,
+        Err((JournalFault::Disk, disk)) => {
+            disk.into_inner().check_memory()?;
+            return Ok((false, false));
+        }
+        Err((fault, _)) => return Err(Fail::from(fault)),
     };
     match journal.part_at(0, 65_000, 6) {
         Ok(part) => Ok((true, part.len() == 6)),
@@ -457,9 +463,7 @@ fn a_refused_disk_is_handed_back(rt: HostRuntime) -> Result<(), Fail> {
     let alloc = rt.alloc();
     let (fault, disk) = fault_of(alloc, FuseDisk::new(disk_of(alloc, &SEGMENT)?, 0))?;
     assert_answer(&rt, 0, &fault, &JournalFault::Disk);
-    let Ok((payloads, _)) = opened(alloc, disk.into_inner()) else {
-        return Err(Fail::from("a segment"));
-    };
+    let (payloads, _) = opened_well(alloc, disk.into_inner())?;
     assert_payloads(&rt, &payloads, &[&PAYLOAD]);
     Ok(())
 }
@@ -502,6 +506,18 @@ fn renewed<D: Disk + Drop>(
     }
 }
 
+// The same of a segment that must be written.
+fn renewed_well<D: Disk + Drop>(
+    alloc: Global,
+    disk: D,
+    payloads: &[&[u8]],
+) -> Result<Journal<D>, Fail> {
+    match renewed(alloc, disk, payloads)? {
+        Ok(journal) => Ok(journal),
+        Err((fault, _)) => Err(Fail::from(fault)),
+    }
+}
+
 #[test]
 fn a_whole_segment_is_written(rt: HostRuntime) -> Result<(), Fail> {
     // What the disk has first, the payloads, and the segment that they make.
@@ -514,9 +530,7 @@ fn a_whole_segment_is_written(rt: HostRuntime) -> Result<(), Fail> {
     let alloc = rt.alloc();
     for (at, (old, payloads, segment)) in ROWS.iter().enumerate() {
         let disk = FuseDisk::new(disk_of(alloc, old)?, 8);
-        let Ok(journal) = renewed(alloc, disk, payloads)? else {
-            return Err(Fail::from("eight calls"));
-        };
+        let journal = renewed_well(alloc, disk, payloads)?;
         assert_answer(&rt, at, &journal.bytes(), &(segment.len() as u64));
         assert_answer(&rt, at, &journal.is_broken(), &false);
         let mut disk = journal.into_disk().into_inner();
@@ -552,7 +566,9 @@ fn no_whole_segment_is_written(rt: HostRuntime) -> Result<(), Fail> {
             return Err(Fail::from("fewer than eight calls"));
         };
         assert_answer(&rt, at, &fault, &JournalFault::Disk);
-        assert_octets(&rt, alloc, at, &mut disk.into_inner(), left)?;
+        let mut disk = disk.into_inner();
+        check_memory(&disk)?;
+        assert_octets(&rt, alloc, at, &mut disk, left)?;
     }
     Ok(())
 }
@@ -573,9 +589,7 @@ fn no_payload_too_long_is_written(rt: HostRuntime) -> Result<(), Fail> {
         assert_octets(&rt, alloc, at, &mut disk.into_inner(), &TWICE)?;
     }
     let disk = disk_of(alloc, &TWICE)?;
-    let Ok(journal) = renewed(alloc, disk, &[&long[1..]])? else {
-        return Err(Fail::from("the longest payload"));
-    };
+    let journal = renewed_well(alloc, disk, &[&long[1..]])?;
     assert_answer(&rt, 0, &journal.bytes(), &16777222);
     Ok(())
 }
@@ -586,9 +600,9 @@ fn no_payload_too_long_is_gathered(rt: HostRuntime) -> Result<(), Fail> {
     let long = vec![in alloc; 0u8; 16777217]?;
     let mut gathered = Gathered::with_room(alloc, 0)?;
     let refused = gathered.push(&long);
-    assert_answer(&rt, 0, &refused, &Err(GatherFault::PayloadTooLong));
+    assert_call(&rt, 0, &refused, &Err(GatherFault::PayloadTooLong))?;
     assert_answer(&rt, 0, &gathered.is_empty(), &true);
-    assert_answer(&rt, 1, &gathered.push(&long[1..]), &Ok(()));
+    assert_call(&rt, 1, &gathered.push(&long[1..]), &Ok(()))?;
     assert_answer(&rt, 1, &gathered.is_empty(), &false);
     Ok(())
 }
@@ -688,31 +702,27 @@ fn work<A: Abort, D: Disk>(
 }
 
 // The journal of this disk, of which a call of the opening may fail: then it is opened a second time.
-fn opened_at_last<A: Abort, D: Disk + Drop>(
-    rt: &A,
+fn opened_at_last<D: Disk + Drop>(
     alloc: Global,
     disk: D,
 ) -> Result<(Vec<Vec<u8>>, Journal<D>), Fail> {
     match opened(alloc, disk) {
         Ok(found) => Ok(found),
-        Err((fault, disk)) => {
-            assert_answer(rt, 0, &fault, &JournalFault::Disk);
-            match opened(alloc, disk) {
-                Ok(found) => Ok(found),
-                Err((fault, _)) => Err(Fail::from(fault)),
-            }
-        }
+        Err((JournalFault::Disk, disk)) => opened_well(alloc, disk),
+        Err((fault, _)) => Err(Fail::from(fault)),
     }
 }
 
 // Whether the call after this many, which fails, comes.
 fn meets_fault<A: Abort>(rt: &A, alloc: Global, segment: &[u8], calls: u64) -> Result<bool, Fail> {
     let disk = FlakyDisk::new(disk_of(alloc, segment)?, calls);
-    let (payloads, mut journal) = opened_at_last(rt, alloc, disk)?;
+    let (payloads, mut journal) = opened_at_last(alloc, disk)?;
     let (kept, added) = work(rt, alloc, &mut journal, payloads.len() as u64)?;
     let disk = journal.into_disk();
     let met = 0 < disk.faults();
-    let (left, _) = opened_at_last(rt, alloc, disk.into_inner())?;
+    let disk = disk.into_inner();
+    check_memory(&disk)?;
+    let (left, _) = opened_at_last(alloc, disk)?;
     assert_answer(rt, 0, &(kept..=added).contains(&(left.len() as u64)), &true);
     assert_answer(
         rt,

@@ -61,6 +61,8 @@ pub(crate) struct PlannedFile {
     interrupted: bool,
     // A sync has failed.
     forgets: bool,
+    // Memory was refused to a call, which failed.
+    lacked_memory: bool,
 }
 
 impl PlannedFile {
@@ -72,6 +74,7 @@ impl PlannedFile {
             plan,
             interrupted: false,
             forgets: false,
+            lacked_memory: false,
         })
     }
 
@@ -90,8 +93,17 @@ impl PlannedFile {
         self.plan.fails.is_some()
     }
 
+    // Refused if memory was refused to a call, which failed then without being meant to.
+    pub(crate) fn check_memory(&self) -> Result<(), AllocError> {
+        if self.lacked_memory {
+            return Err(AllocError);
+        }
+        Ok(())
+    }
+
     // The file as the next process opens it: what the system kept of it in memory is lost.
     pub(crate) fn opened_anew(self) -> Result<Self, AllocError> {
+        self.check_memory()?;
         let alloc = *self.durable.allocator();
         PlannedFile::new(alloc, &self.durable, self.plan)
     }
@@ -118,17 +130,25 @@ impl PlannedFile {
         if count == self.octets.len() {
             self.durable.truncate(count);
         }
-        overwrite(&mut self.durable, 0, &self.octets[..count])
+        let written = overwrite(&mut self.durable, 0, &self.octets[..count]);
+        self.noticed(written)
+    }
+
+    // A call for which memory was refused fails.
+    fn noticed(&mut self, written: Result<(), AllocError>) -> Result<(), RawFault> {
+        if written.is_err() {
+            self.lacked_memory = true;
+            return Err(RawFault::Failed);
+        }
+        Ok(())
     }
 }
 
 // Writes these octets at this offset, or at the end if that comes first.
-fn overwrite(octets: &mut Vec<u8>, at: usize, from: &[u8]) -> Result<(), RawFault> {
+fn overwrite(octets: &mut Vec<u8>, at: usize, from: &[u8]) -> Result<(), AllocError> {
     let at = cmp::min(at, octets.len());
     let (within, behind) = from.split_at(cmp::min(from.len(), octets.len() - at));
-    if octets.extend_from_slice(behind).is_err() {
-        return Err(RawFault::Failed);
-    }
+    octets.extend_from_slice(behind)?;
     octets[at..at + within.len()].copy_from_slice(within);
     Ok(())
 }
@@ -168,7 +188,7 @@ impl RawFile for PlannedFile {
             &from[done..done + count],
         );
         begun?;
-        written?;
+        self.noticed(written)?;
         Ok(count)
     }
 

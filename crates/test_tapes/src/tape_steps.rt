@@ -1,5 +1,5 @@
 // Steps at a tape, each taken by one public call of it.
-use crate::answers::assert_answer;
+use crate::answers::{assert_answer, assert_call};
 use crate::disks::assert_both;
 use crate::samples::{Sample, SourceLine, TEXTS, is_sample, keys_of, line, lines, note_of, texts};
 use disk_model::Disk;
@@ -177,11 +177,9 @@ fn assert_debts<A: Abort, D: Disk>(
     want: Result<&[u64], TapeFault>,
 ) -> Result<(), Fail> {
     match tape.debts(&lines(alloc, numbers)?) {
-        Ok(debts) => assert_answer(rt, at, &Ok(numbers_of(alloc, &debts)?.as_slice()), &want),
-        Err(TapeFault::NoMemory) => return Err(Fail::from(TapeFault::NoMemory)),
-        Err(fault) => assert_answer(rt, at, &Err(fault), &want),
+        Ok(debts) => assert_call(rt, at, &Ok(numbers_of(alloc, &debts)?.as_slice()), &want),
+        Err(fault) => assert_call(rt, at, &Err(fault), &want),
     }
-    Ok(())
 }
 
 fn assert_owed<A: Abort, D: Disk>(
@@ -202,24 +200,24 @@ fn take<A: Abort, D: Disk>(
     step: TapeStep,
 ) -> Result<(), Fail> {
     match step {
-        TapeStep::Note(sample, want) => assert_answer(rt, at, &note(alloc, tape, sample)?, &want),
+        TapeStep::Note(sample, want) => assert_call(rt, at, &note(alloc, tape, sample)?, &want)?,
         TapeStep::SeenEach(first, behind) => see_each(tape, first, behind)?,
         TapeStep::OweEach(first, behind) => owe_each(alloc, tape, first, behind)?,
         TapeStep::EndEach(first, behind) => end_each(alloc, tape, first, behind)?,
         TapeStep::DropAll(numbers, want) => {
-            assert_answer(rt, at, &drop_all(alloc, tape, numbers)?, &want)
+            assert_call(rt, at, &drop_all(alloc, tape, numbers)?, &want)?
         }
-        TapeStep::Flush(want) => assert_answer(rt, at, &flush(tape)?, &want),
+        TapeStep::Flush(want) => assert_call(rt, at, &flush(tape)?, &want)?,
         TapeStep::FlushOf(place, count) => assert_answer(rt, at, &flush_of(tape)?, &(place, count)),
         TapeStep::Flushed(want) => assert_answer(rt, at, &tape.flushed(), &want),
         TapeStep::Placed(place) => tape.placed(place),
         TapeStep::Place(want) => assert_answer(rt, at, &tape.place(), &want),
-        TapeStep::Rotate(want) => assert_answer(rt, at, &rotate(tape)?, &want),
+        TapeStep::Rotate(want) => assert_call(rt, at, &rotate(tape)?, &want)?,
         TapeStep::RotateDue(want) => assert_answer(rt, at, &tape.rotate_due(), &want),
-        TapeStep::Debt(number, want) => assert_answer(rt, at, &told(tape, number)?, &want),
+        TapeStep::Debt(number, want) => assert_call(rt, at, &told(tape, number)?, &want)?,
         TapeStep::DebtFrom((source, number), want) => {
             let key = Key::new(source, number);
-            assert_answer(rt, at, &debt_of(tape, key)?, &want)
+            assert_call(rt, at, &debt_of(tape, key)?, &want)?
         }
         TapeStep::Debts(numbers, want) => assert_debts(rt, alloc, at, tape, numbers, want)?,
         TapeStep::Octets(number, want) => assert_answer(rt, at, &tape.octets(line(number)), &want),

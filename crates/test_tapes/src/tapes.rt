@@ -1,6 +1,6 @@
 // Tapes at which steps are taken, on disks that fail and on what a stop leaves of disks.
 use crate::answers::assert_answer;
-use crate::disks::{assert_both, assert_faults, beside_empty, disk_of, disks_of};
+use crate::disks::{assert_both, assert_faults, beside_empty, check_both, disk_of, disks_of};
 use crate::planned_file::{Plan, PlannedFile};
 use crate::read_only::ReadOnly;
 use crate::samples::Sample;
@@ -291,6 +291,7 @@ pub(crate) fn prefix_of(
 fn refused<D: Disk + Drop>(alloc: Global, disks: (D, D)) -> Result<(TapeFault, (D, D)), Fail> {
     match opened(alloc, disks) {
         Ok(_) => Err(Fail::from("opened")),
+        Err((TapeFault::NoMemory, _)) => Err(Fail::from(TapeFault::NoMemory)),
         Err(refused) => Ok(refused),
     }
 }
@@ -552,11 +553,13 @@ pub(crate) fn stopped<A: Abort>(
     calls: CallsLeft,
     steps: &[TapeStep],
 ) -> Result<(MemDisk, MemDisk), Fail> {
-    match opened(alloc, fused(disks, calls)) {
-        Ok(tape) => Ok(unfused(play(rt, alloc, tape, steps)?)),
-        Err((TapeFault::Disk, disks)) => Ok(unfused(disks)),
-        Err((fault, _)) => Err(Fail::from(fault)),
-    }
+    let disks = match opened(alloc, fused(disks, calls)) {
+        Ok(tape) => unfused(play(rt, alloc, tape, steps)?),
+        Err((TapeFault::Disk, disks)) => unfused(disks),
+        Err((fault, _)) => return Err(Fail::from(fault)),
+    };
+    check_both(&disks)?;
+    Ok(disks)
 }
 
 // How many debts there are, at least and at most.
