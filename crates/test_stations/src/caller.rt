@@ -1,7 +1,7 @@
 // Steps of a script: what is done to a station or by its peer, with the answer that is wanted.
 use crate::shared::{
-    LATER, RowPlace, all_in_rows, article, assert_same, connection, funnel_key, hand, in_rows,
-    input, key_in_rows, names, offer, told,
+    LATER, RowPlace, all_in_rows, article, assert_call, assert_same, connection, funnel_key, hand,
+    in_rows, input, key_in_rows, names, offer, told,
 };
 use conn_core::{Conn, CxnId, Outcome};
 use disk_model::{Disk, FuseDisk, MemDisk};
@@ -408,32 +408,24 @@ fn assert_imported<A: Abort>(
     assert_new(rt, caller, owed, want)
 }
 
-// The wanted answer to a line that is owed, unless memory was refused.
+// The wanted answer to a line that is owed.
 fn assert_new<A: Abort>(
     rt: &A,
     caller: &StationCaller,
     owed: Result<Owed, StationFault>,
     want: Result<Owed, StationFault>,
 ) -> Result<(), Fail> {
-    if owed == Err(StationFault::NoMemory) {
-        return Err(Fail::from(StationFault::NoMemory));
-    }
-    assert_same(rt, caller.place, &owed, &want);
-    Ok(())
+    assert_call(rt, caller.place, &owed, &want)
 }
 
-// The wanted answer to a call that takes memory, unless memory was refused.
+// The wanted answer to a call that takes memory.
 fn assert_answer<A: Abort>(
     rt: &A,
     caller: &StationCaller,
     answer: Result<u64, StationFault>,
     want: Result<u64, StationFault>,
 ) -> Result<(), Fail> {
-    if answer == Err(StationFault::NoMemory) {
-        return Err(Fail::from(StationFault::NoMemory));
-    }
-    assert_same(rt, caller.place, &answer, &want);
-    Ok(())
+    assert_call(rt, caller.place, &answer, &want)
 }
 
 fn hold(caller: &mut StationCaller, held: Outcome) -> Result<(), Fail> {
@@ -676,10 +668,9 @@ fn finish<A: Abort>(
     assert_same(rt, caller.place, &in_rows(key_in(&outcome)), &number);
     let before = told(&outcome);
     match caller.station.finish(connection, outcome, now) {
-        Ok(settled) => assert_same(rt, caller.place, &Ok(settled), &want),
-        Err((_, StationFault::NoMemory)) => return Err(Fail::from(StationFault::NoMemory)),
+        Ok(settled) => assert_call(rt, caller.place, &Ok(settled), &want)?,
         Err((held, fault)) => {
-            assert_same(rt, caller.place, &Err(fault), &want);
+            assert_call(rt, caller.place, &Err(fault), &want)?;
             assert_same(rt, caller.place, &told(&held), &before);
             hold(caller, held)?;
         }

@@ -60,6 +60,23 @@ pub(crate) fn assert_same<A: Abort, T: PartialEq + Debug>(
     assert_eq!(rt; *told, *want, "{}, step {}", place.row, place.step);
 }
 
+// The same for a call that can be refused. A fault that is not the wanted one ends the test: memory may be refused to
+// the call, or to a disk in memory, which fails then.
+pub(crate) fn assert_call<A: Abort, T: PartialEq + Debug, E: Copy + PartialEq + Debug>(
+    rt: &A,
+    place: RowPlace,
+    answer: &Result<T, E>,
+    want: &Result<T, E>,
+) -> Result<(), Fail> {
+    if let Err(fault) = answer
+        && answer != want
+    {
+        return Err(Fail::from(*fault));
+    }
+    assert_same(rt, place, answer, want);
+    Ok(())
+}
+
 // A token of three octets and this message-id: with an id of five octets, the debt has ten.
 pub(crate) fn names(alloc: Global, id: &[u8]) -> Result<(Token, MsgId), Fail> {
     Ok((
