@@ -4,7 +4,7 @@ ghost use Rattle.std.specs.List.{All};
 ghost use Rattle.flusher.specs.Post.{IsFor, names_of};
 ghost use Rattle.flusher.specs.Sealed.{IsFlushed};
 
-use crate::shared::{check_fault, counted_on_disks, fused_intake, fused_peer, take};
+use crate::shared::{check_fault, counted_on_disks, fused_intake, fused_peer, lacks_memory, take};
 use disk_model::{Disk, FuseDisk, MemDisk};
 use flusher::{
     Blanks, ClosedPost, FeederShare, Flusher, Free, IntakeShare, Naming, Pace, Post, PostFault,
@@ -41,18 +41,21 @@ const CALLS: u64 = 23 + 5;
 struct FullFlushes {
     taken: u64,
     refused: u64,
-    full: Result<u64, PostFault>,
-    rest: Result<u64, PostFault>,
-    // The flush of one more line, for which the disk has no call left.
-    last: Result<u64, PostFault>,
+    // The receipts of two flushes.
+    full: u64,
+    rest: u64,
+    // Why the flush of one more line is refused, for which the disk has no call left.
+    last: PostFault,
     // What the station has taken once it is opened again.
     on_disk: u64,
 }
 
-fn number(flushed: Result<Receipt, PostFault>) -> Result<u64, PostFault> {
+// Why a flush was refused; lack of memory ends the test.
+fn refusal(flushed: Result<Receipt, PostFault>) -> Result<PostFault, Fail> {
     match flushed {
-        Ok(receipt) => Ok(receipt.number()),
-        Err(fault) => Err(fault),
+        Ok(_) => Err(Fail::from("a refusal")),
+        Err(fault) if lacks_memory(&fault) => Err(Fail::from(fault)),
+        Err(fault) => Ok(fault),
     }
 }
 
@@ -72,6 +75,29 @@ fn take_lines<N: Naming, R: Wait>(
     (taken, count.saturating_sub(taken))
 }
 
+// Takes the lines and flushes them.
+//
+// proof: over a borrowed post, so that no way out of a step drops the post and its shares.
+fn flush_full<N: Naming, R: Wait>(
+    rt: &R,
+    post: &Post<FuseDisk<MemDisk>, N>,
+    lines: &mut IntakeShare<N>,
+) -> Result<FullFlushes, Fail> {
+    let (taken, refused) = take_lines(rt, post, lines, LINES);
+    let full = post.flush_all(rt, &Free)?.number();
+    take_lines(rt, post, lines, refused);
+    let rest = post.flush_all(rt, &Free)?.number();
+    take_lines(rt, post, lines, 1);
+    Ok(FullFlushes {
+        taken,
+        refused,
+        full,
+        rest,
+        last: refusal(post.flush_all(rt, &Free))?,
+        on_disk: 0,
+    })
+}
+
 fn filled<N: Naming, R: Wait>(
     rt: &R,
     alloc: Global,
@@ -86,19 +112,10 @@ fn filled<N: Naming, R: Wait>(
     let (post, mut lines, first, second, third) = Post::<FuseDisk<MemDisk>, N>::new(
         alloc, peers, intake, blanks,
     )?;
-    let (taken, refused) = take_lines(rt, &post, &mut lines, LINES);
-    let full = number(post.flush_all(rt, &Free));
-    take_lines(rt, &post, &mut lines, refused);
-    let rest = number(post.flush_all(rt, &Free));
-    take_lines(rt, &post, &mut lines, 1);
-    let last = number(post.flush_all(rt, &Free));
+    let flushes = flush_full(rt, &post, &mut lines)?;
     Ok(FullFlushes {
-        taken,
-        refused,
-        full,
-        rest,
-        last,
         on_disk: on_disk(rt, alloc, post, lines, (first, second, third))?,
+        ..flushes
     })
 }
 
@@ -140,12 +157,12 @@ fn a_full_front_is_flushed_at_once(rt: HostRuntime) -> Result<(), Fail> {
     let want = FullFlushes {
         taken: 65_536,
         refused: 4_464,
-        full: Ok(65_536),
-        rest: Ok(70_000),
-        last: Err(PostFault::Station {
+        full: 65_536,
+        rest: 70_000,
+        last: PostFault::Station {
             peer: 0,
             fault: StationFault::Tape(TapeFault::Disk),
-        }),
+        },
         on_disk: 70_000,
     };
     assert_eq!(rt; flushes, want);

@@ -402,8 +402,12 @@ fn fail_rotation<N: Naming, R: Wait>(
         return Err(Fail::from("three peers"));
     }
     fill(rt, post, lines, share)?;
-    let rotate = second_fault(post.rotate_all(rt))?;
+    let rotated = post.rotate_all(rt);
     let reported = post.reported(rt, 1);
+    if rotated.is_ok() && reported.has_failed {
+        return Err(Fail::from("memory"));
+    }
+    let rotate = second_fault(rotated)?;
     let claim = second_fault(post.claim(rt, 1, CxnId(1), 0))?;
     Ok(FailedRotation {
         rotate,

@@ -304,9 +304,10 @@ pub(crate) fn checked_on_disks(
     flusher: Option<PostFault>,
     want: Option<PostFault>,
 ) -> Result<(u64, u64), Fail> {
+    // Other workers find a tape broken that failed at the flusher.
+    check_fault(flusher, want)?;
     for fault in workers {
         check_fault(fault, None)?;
     }
-    check_fault(flusher, want)?;
     answered_on_disks(alloc, peers)
 }

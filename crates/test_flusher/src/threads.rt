@@ -137,9 +137,18 @@ impl<D: Disk, N: Naming> Work<D, N> for Hand<N> {
         pace.turn(self.who, Place::BeforeSettle);
         if let Err(fault) = self.done(rt, post, pace) {
             self.fault = Some(fault);
+            if let Job::Flush = self.job {
+                pass_flush(pace);
+            }
         }
         pace.turn(self.who, Place::AfterSettle);
     }
+}
+
+// Passes the places of a flush that was refused before it came to them: nobody waits there for it in vain.
+fn pass_flush<P: Pace>(pace: &P) {
+    pace.turn(Who::Flusher, Place::InFlush);
+    pace.turn(Who::Flusher, Place::AfterFlush);
 }
 
 // How many debts' room is taken at the first peer, whose station others may use.
