@@ -107,7 +107,7 @@ impl<S: SpoolDirectory + Drop, C: Net + Drop, N: Naming> Feeder<S, C, N> {
             || !self.connections.iter().any(|(_, one)| one.holds_debts())
     }
 
-    /// The post as this feeder uses it now; `waits` is whether it waits for a front or a tape that is in use
+    /// The post as this feeder uses it now; `waits` is whether `put_off` and `release` wait for a front that is in use
     /// ([`PostView::waits`]).
     pub(crate) fn post_view<'a, D: Disk, P: Pace>(
         &self,

@@ -21,8 +21,8 @@ pub(crate) struct PostView<'a, D: Disk, N: Naming, P: Pace> {
     pub due: u64,
     /// Whether debts are claimed: not if the run is to end.
     pub claims: bool,
-    /// Whether `claim` waits for a tape that is in use, and `put_off` and `release` for a front; otherwise they are
-    /// refused. `claim`, `finish` and `has_work` always wait for a front, `take_room` and `all_later` never do.
+    /// Whether `put_off` and `release` wait for a front that is in use; otherwise they are refused. `claim`, `finish`
+    /// and `has_work` always wait for a front, `take_room` and `all_later` never do. No call waits for a tape.
     pub waits: bool,
 }
 
@@ -30,7 +30,7 @@ impl<D: Disk, N: Naming, P: Pace> PostView<'_, D, N, P> {
     /// The least debt of the peer that can be offered now. This connection holds it from then on.
     ///
     /// # Errors
-    /// The post's fault, `Busy` only if `waits` is false; `NoPeer`.
+    /// The post's fault: `Busy` if only the tape has its texts, and the tape is in use. `NoPeer`.
     pub fn claim<R: Wait>(
         &self,
         rt: &R,
@@ -40,12 +40,7 @@ impl<D: Disk, N: Naming, P: Pace> PostView<'_, D, N, P> {
         if peer >= self.post.peers() {
             return Err(FeederFault::NoPeer);
         }
-        let claimed = if self.waits {
-            self.post.claim(rt, peer, connection, self.due)
-        } else {
-            self.post.try_claim(rt, peer, connection, self.due)
-        };
-        Ok(claimed?)
+        Ok(self.post.try_claim(rt, peer, connection, self.due)?)
     }
 
     /// Takes to the station what became of a debt that this connection held.
