@@ -326,6 +326,15 @@ fn hire<D: Disk, N: Naming, R: Wait>(
     })
 }
 
+// A flusher keeps its first fault alone, as that of q's tape. In no row does a flush of p fail but for lack of memory,
+// and then p's front says so.
+fn hidden_fault<D: Disk, N: Naming, R: Wait>(rt: &R, post: &Post<D, N>) -> Option<PostFault> {
+    if 0 < post.peers() && post.reported(rt, 0).has_failed {
+        return Some(PostFault::NoMemory);
+    }
+    None
+}
+
 // Runs the workers of a row, or only its two feeders, and returns all of them.
 fn run_all<
     D: Disk + Send,
@@ -385,6 +394,7 @@ fn meet<N: Naming + Send + Sync, R: AllocGlobal + Clock + Log + Threads + Wait +
     let feeders = (first, second);
     let ended = run_all(rt, &post, row.alone, feeders, third, &mut taker, &pace);
     let gave_up = pace.gave_up();
+    let hidden = hidden_fault(rt, &post);
     let Ok((first, second, third)) = ended else {
         return Err(Fail::from("a thread"));
     };
@@ -397,7 +407,7 @@ fn meet<N: Naming + Send + Sync, R: AllocGlobal + Clock + Log + Threads + Wait +
         fault: intake_fault,
         ..
     } = taker;
-    let faults = [first.fault, second.fault, intake_fault];
+    let faults = [first.fault, second.fault, intake_fault.or(hidden)];
     match post.close(rt, share, one, two, three) {
         Ok(
             ClosedPost {
