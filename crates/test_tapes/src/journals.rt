@@ -215,8 +215,7 @@ fn damage_is_told_with_its_place(rt: HostRuntime) -> Result<(), Fail> {
 
 #[test]
 fn steps_are_taken_at_a_journal(rt: HostRuntime) -> Result<(), Fail> {
-    // A segment, after how many calls its disk fails, the steps, and the segment that they leave, if that is
-    // compared.
+    // A segment, after how many calls its disk fails, the steps, and the segment left by them, if it is compared.
     const SCRIPTS: &[(&[u8], u64, &[JournalStep], Option<&[u8]>)] = &[
         (
             &SEGMENT,
@@ -284,8 +283,7 @@ fn steps_are_taken_at_a_journal(rt: HostRuntime) -> Result<(), Fail> {
             ],
             Some(&TWICE),
         ),
-        // Opening takes six calls, and the seventh reads ahead. No other call passes, and none is needed until it
-        // reads singly.
+        // Opening takes six calls, and the seventh reads ahead. No other passes, or is needed until it reads singly.
         (
             &SEGMENT,
             7,
@@ -381,8 +379,7 @@ fn parts_cost_few_calls(rt: HostRuntime) -> Result<(), Fail> {
     // Of how many records the segment is, the length of each payload, the length of a piece, the parts that are read,
     // and how many of them are read by as many calls as the first one takes, by one more, and so on.
     const ROWS: [(usize, u32, u64, &[(u64, u32, u32)], &[usize]); 2] = [
-        // The first piece ends within the second record. The second part lies past that end, and the third is before
-        // it in the same record.
+        // The first piece ends in the second record: the second part lies past that end, the third before it.
         (
             3,
             65_536,
@@ -390,8 +387,7 @@ fn parts_cost_few_calls(rt: HostRuntime) -> Result<(), Fail> {
             &[(0, 0, 1), (65_541, 65_530, 6), (65_541, 0, 6)],
             &[1, 3],
         ),
-        // One record is longer than a piece. A call takes up what stands around the second part, and one the record's
-        // head, which is kept: so the last two parts cost none.
+        // The record is longer than a piece. One call reads around the second part, one the head: the others are free.
         (
             1,
             40_000,
@@ -420,8 +416,7 @@ fn parts_cost_few_calls(rt: HostRuntime) -> Result<(), Fail> {
     Ok(())
 }
 
-// Whether a journal is opened, and then six octets of its first record are read, if its file passes this many calls,
-// of which each moves at most 1,024 octets.
+// Whether a journal is opened, and then six octets of its first record are read, by so many calls of 1,024 octets.
 fn part_of_long_record(alloc: Global, segment: &[u8], calls: u64) -> Result<(bool, bool), Fail> {
     let file = PlannedFile::new(alloc, segment, Plan::bounded(1_024, calls))?;
     let mut journal = match opened(alloc, FileDisk::new(file)) {
@@ -667,8 +662,7 @@ fn the_first_payload_is_told(rt: HostRuntime) -> Result<(), Fail> {
     Ok(())
 }
 
-// Adds two payloads to a journal with this many, and then one. Returns how many it has for certain, and how many at
-// most: only the disk fails an addition, and then every later one is broken.
+// Adds two payloads to a journal with so many, then one; returns the least and the most that it has. A fault breaks it.
 fn work<A: Abort, D: Disk>(
     rt: &A,
     alloc: Global,
@@ -744,8 +738,7 @@ fn calls_of<A: Abort>(rt: &A, alloc: Global, segment: &[u8]) -> Result<u64, Fail
     Err(Fail::from("no end of calls"))
 }
 
-// Opening an empty disk takes five calls, and one more, a read, if it has octets. Two payloads take five calls, and
-// one takes four.
+// Opening an empty disk takes five calls, and a read more if it has octets. Two payloads take five, and one four.
 #[test]
 fn a_fault_at_any_call_leaves_a_prefix(rt: HostRuntime) -> Result<(), Fail> {
     for (segment, calls) in [([].as_slice(), 14), (&SEGMENT, 15)] {
@@ -787,9 +780,8 @@ fn reading_of(alloc: Global, segment: &[u8]) -> Result<(usize, u64), Fail> {
 
 #[test]
 fn a_long_segment_is_read_in_pieces(rt: HostRuntime) -> Result<(), Fail> {
-    // How many payloads there are, the length of each, and how many reads they take. A piece has 131,072 octets. A
-    // payload that goes past its end is read again with the next, and one that is as long as a piece is read by
-    // itself.
+    // How many payloads, how long each is, and how many reads they take. A piece has 131,072 octets. A payload that
+    // goes past its end is read again with the next, and one that is as long as a piece by itself.
     const ROWS: &[(usize, u32, u64)] = &[
         (0, 0, 1),
         (2_730, 43, 1),
