@@ -21,8 +21,8 @@ pub enum Settled {
 }
 
 impl Settled {
-    // What becomes of a debt by its outcome, at this moment, at a station of these limits.
-    pub(crate) fn by(outcome: &Outcome, limits: Limits, now: u64) -> Self
+    /// What becomes of a debt by its outcome, at this moment, at a station of these limits.
+    pub fn by(outcome: &Outcome, limits: Limits, now: u64) -> Self
         ensures { result ≡ settled_by limits now outcome.now }
     {
         match outcome {
