@@ -94,6 +94,10 @@ impl Sender {
         let Some(note) = self.front.next_unsent() else {
             return Ok(false);
         };
+        // No texts are copied that the queue has no room for.
+        if queue.is_full_as::<Sends<P>>(&mut self.pass) {
+            return Ok(false);
+        }
         let note = note.copy()?;
         let Ok(()) = queue.push_as::<Sends<P>, R>(rt, &mut self.pass, note) else {
             return Ok(false);

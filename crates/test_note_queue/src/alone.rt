@@ -67,6 +67,26 @@ fn a_note_that_the_tape_refuses_is_kept(rt: HostRuntime) -> Result<(), Fail> {
     Ok(())
 }
 
+#[test]
+fn debts_are_read_from_the_tape(rt: HostRuntime) -> Result<(), Fail> {
+    let alloc = rt.alloc();
+    let mut relay = Relay::new(alloc, MemDisk::new(alloc), MemDisk::new(alloc))?;
+    relay.owe(&rt, alloc, 1, 3)?;
+    relay.go_round(&rt)?;
+    let [first, second, third, beyond] = [1, 2, 3, 4].map(|number| Key::new(0, number));
+    let debts = relay.side.debts(&[third, beyond, first])?;
+    assert_eq!(rt; debts.len(), 2);
+    assert_eq!(rt; (debts[0].key(), debts[1].key()), (third, first));
+    let debt = relay.side.debt(second)?.ok_or("a debt")?;
+    assert_eq!(rt; debt.key(), second);
+    assert_eq!(rt;
+        (debt.token().bytes(), debt.id().bytes()),
+        (&b"a/1"[..], &b"<x@y>"[..])
+    );
+    assert_eq!(rt; relay.side.debt(beyond)?.is_none(), true);
+    Ok(())
+}
+
 // The fault that a call is refused for. Lack of memory ends the test.
 fn fault_of<T: Drop>(answer: Result<T, TapeFault>) -> Result<TapeFault, Fail> {
     match answer {
