@@ -56,6 +56,10 @@ counted_drop : (a b c d n : ℕ) (cause : Cause) (old new : Shape) → new ≡ s
 counted_drop a b c d n cause old new same more was =
     subst (Counted a b d) (sym same) (was.0, was.1, omega (arith, was.2, more))
 
+-- what was counted, and then taken back, is as it was
+pub taken_back : (old counted new k : ℕ) → counted ≡ old + k → new + k ≡ counted → new ≡ old
+taken_back old counted new k more less = omega (arith, more, less)
+
 counted_none : (a b n : ℕ) → b ≡ a + 0 → a ≡ n → b ≡ n
 counted_none a b n none was = omega (arith, none, was)
 

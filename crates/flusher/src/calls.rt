@@ -1,6 +1,7 @@
 // What workers ask of a post.
 ghost use Rattle.std.specs.Prelude.{◌≡◌, ◌≢◌, ◌↔◌, ◌⊎◌, ◌+◌, ◌-◌, ◌<◌, ◌^◌};
 ghost use Rattle.std.specs.Prelude.{[], IfErr, IfOk, IsErrAnd, IsErrOf, OnErr, OnOk, length};
+ghost use Rattle.std.specs.Sync.Mutex.{mutex_guard_value};
 ghost use Rattle.crossbeam_queue.specs.Passes.{view};
 ghost use Rattle.flusher.specs.Counted.{IsCounted};
 ghost use Rattle.flusher.specs.Faults.{IsOfStation, IsPutOffFault, IsShedFault};
@@ -33,8 +34,12 @@ use std::sync::{Mutex, MutexGuard, Wait};
 // Half of the notes that may pend at a front.
 const HALF_FULL_NOTES: usize = PENDING_MAX_NOTES / 2;
 
-// How often a call that waits for nobody looks whether a lock is free, before it is refused.
-const LOOKS_MAX: u32 = 100;
+// How often a call looks whether a front or a tally is free, before it sleeps or is refused. Such a lock is held for
+// microseconds, and a sleep costs more.
+const LOOKS_MAX: u32 = 1_000;
+
+// How often a call looks whether a tape is free, before it is refused. A disk may be synced under that lock.
+const TAPE_LOOKS_MAX: u32 = 100;
 
 impl<D: Disk, N: Naming> Post<D, N> {
     /// How many peers there are.
@@ -105,7 +110,7 @@ impl<D: Disk, N: Naming> Post<D, N> {
     pub(crate) fn free_front(&self, peer: usize) -> Option<MutexGuard<'_, FrontDesk<N>>>
         requires { peer < length self.now.names }
     {
-        free(&self.peers[peer].front)
+        free(&self.peers[peer].front, LOOKS_MAX)
     }
 
     // A peer's front. It soon is free, so this looks a while before it waits.
@@ -120,7 +125,7 @@ impl<D: Disk, N: Naming> Post<D, N> {
 
     // The tally of what has ended. It, too, soon is free.
     fn ended<R: Wait>(&self, rt: &R) -> MutexGuard<'_, Tally<N>> {
-        match free(&self.ended) {
+        match free(&self.ended, LOOKS_MAX) {
             Some(tally) => tally,
             None => self.ended.lock(rt),
         }
@@ -130,7 +135,7 @@ impl<D: Disk, N: Naming> Post<D, N> {
     pub(crate) fn free_tape(&self, peer: usize) -> Option<MutexGuard<'_, TapeDesk<D, N>>>
         requires { peer < length self.now.names }
     {
-        free(&self.peers[peer].tape)
+        free(&self.peers[peer].tape, TAPE_LOOKS_MAX)
     }
 
     // Sends what a peer's front has not sent to its tape, in order, until the queue is full. The rest stays unsent; of
@@ -340,8 +345,9 @@ impl<D: Disk, N: Naming> Post<D, N> {
             ((mine.new.answered ≡ mine.old.answered) × (mine.new.dropped ≡ mine.old.dropped)) }
         ensures keeps_report { KeepsReport desk.old desk.new }
     {
-        let mut tally = self.ended(rt);
-        finish_in(peer, desk, &mut tally, connection, outcome, now, mine)
+        let tally = self.ended(rt);
+        let ended = &self.ended;
+        finish_in(rt, peer, desk, ended, tally, connection, outcome, now, mine)
     }
 
     // Sets the peer's flag if a call has brought its front to half of the notes that may pend there.
@@ -411,45 +417,50 @@ fn shed_in<N: Naming>(
     }
 }
 
-// Takes a connection's outcome of a debt to its peer's front, and counts what became of it in this tally.
-fn finish_in<N: Naming>(
+// Takes a connection's outcome of a debt to its peer's front, and counts in this tally what becomes of it.
+fn finish_in<N: Naming, R: Wait>(
+    rt: &R,
     peer: usize,
     desk: &mut FrontDesk<N>,
-    tally: &mut Tally<N>,
+    ended: &Mutex<Tally<N>>,
+    tally: MutexGuard<'_, Tally<N>>,
     connection: CxnId,
     outcome: Outcome,
     now: u64,
     mine: &mut FeederShare<N>,
 ) -> Result<Settled, (Outcome, PostFault)>
-    ensures ok { OnOk result (Finishes connection.0 now outcome (front_of desk.old.seat.sender)
-        (front_of desk.new.seat.sender)) }
+    ensures ok { OnOk result (Finishes connection.0 now outcome
+        (front_of desk.old.seat.sender) (front_of desk.new.seat.sender)) }
+    ensures front { OnErr result
+        (IsSame (front_of desk.old.seat.sender) (front_of desk.new.seat.sender)) }
     ensures counted { IfOk result
         (λ settled. IsCounted outcome now settled mine.old mine.new) }
     ensures returned { IfErr result (λ e. e.0 ≡ outcome) }
     ensures count_full { IsErrAnd result (λ e. e.1 ≡ PostFault.CountFull)
-        ↔ (IsCountFull tally.old.answered ⊎ IsCountFull tally.old.dropped) }
+        ↔ (IsCountFull (mutex_guard_value tally.entry).answered
+        ⊎ IsCountFull (mutex_guard_value tally.entry).dropped) }
     ensures refuses { IsErrAnd result (λ e. e.1 ≡ PostFault.CountFull)
-        ⊎ RefusesOutcomeOf peer connection.0 now outcome (front_of desk.old.seat.sender) result }
+        ⊎ RefusesOutcomeOf peer connection.0 now outcome (front_of desk.old.seat.sender)
+        result }
     ensures kinds { IfErr result
         (λ e. (e.1 ≡ PostFault.CountFull) ⊎ IsOfStation peer IsEndFault e.1) }
     ensures unchanged { OnErr result
-        ((mine.new.answered ≡ mine.old.answered) × (mine.new.dropped ≡ mine.old.dropped)
-        × IsSame (front_of desk.old.seat.sender) (front_of desk.new.seat.sender)) }
+        ((mine.new.answered ≡ mine.old.answered) × (mine.new.dropped ≡ mine.old.dropped)) }
     ensures keeps_report { KeepsReport desk.old desk.new }
 {
     if !tally.has_room() {
         return Err((outcome, PostFault::CountFull));
     }
-    let finished = desk.finish(tally, mine, connection, outcome, now);
+    let finished = desk.finish(rt, ended, tally, mine, connection, outcome, now);
     match finished {
         Ok(settled) => Ok(settled),
         Err((outcome, fault)) => Err((outcome, PostFault::Station { peer, fault })),
     }
 }
 
-// What a lock keeps, if the lock is free, or soon is.
-fn free<T>(lock: &Mutex<T>) -> Option<MutexGuard<'_, T>> {
-    for _ in 0..LOOKS_MAX {
+// What a lock keeps, if the lock is found free at one of so many looks.
+fn free<T>(lock: &Mutex<T>, looks: u32) -> Option<MutexGuard<'_, T>> {
+    for _ in 0..looks {
         if let Some(free) = lock.try_lock() {
             return Some(free);
         }

@@ -23,8 +23,8 @@ use peer_queue::{Owed, Settled, Shed, StationFault};
 use recovery::PENDING_MAX_NOTES;
 use std::alloc::AllocError;
 use std::marker::PhantomData;
-use std::sync::Wait;
 use std::sync::ledger::Share;
+use std::sync::{Mutex, MutexGuard, Wait};
 
 /// A front with the pass by which it sends.
 #[derive(Drop)]
@@ -76,6 +76,7 @@ impl<N: Naming> FrontDesk<N> {
     ghost use Rattle.std.specs.Prelude.{IfErr, IfOk, IfSome, IsNone, IsSome, IsTrue, OnErr, OnOk};
     ghost use Rattle.std.specs.Prelude.{filter, nat_lt, take};
     ghost use Rattle.std.specs.List.{All};
+    ghost use Rattle.std.specs.Sync.Mutex.{mutex_guard_value};
     ghost use Rattle.crossbeam_queue.specs.Passes.{ruled_capacity, view};
     ghost use Rattle.flusher.specs.Ahead.{gone_on, kept_with, wanted_behind};
     ghost use Rattle.flusher.specs.Claims.{Claims, GivesBack, Unclaims};
@@ -135,16 +136,20 @@ impl<N: Naming> FrontDesk<N> {
         }
     }
 
-    /// Takes a connection's outcome of a debt, and counts what became of the debt.
-    pub fn finish(
+    /// Takes a connection's outcome of a debt, and counts what becomes of the debt. It is counted in this tally first,
+    /// so that others can have the tally while the front does its work, and is taken back if the front refuses.
+    pub fn finish<R: Wait>(
         &mut self,
-        tally: &mut Tally<N>,
+        rt: &R,
+        ended: &Mutex<Tally<N>>,
+        tally: MutexGuard<'_, Tally<N>>,
         mine: &mut FeederShare<N>,
         connection: CxnId,
         outcome: Outcome,
         now: u64,
     ) -> Result<Settled, (Outcome, StationFault)>
-        requires room { (tally.old.answered + 1 < 2 ^ 64) × (tally.old.dropped + 1 < 2 ^ 64) }
+        requires room { ((mutex_guard_value tally).answered + 1 < 2 ^ 64)
+            × ((mutex_guard_value tally).dropped + 1 < 2 ^ 64) }
         ensures ok { IfOk result (λ settled. FinishesAndCounts connection.0 now outcome settled
             (front_of self.old.seat.sender) (front_of self.new.seat.sender) mine.old mine.new) }
         ensures returned { IfErr result (λ e. e.0 ≡ outcome) }
@@ -161,9 +166,18 @@ impl<N: Naming> FrontDesk<N> {
             dropped,
             ..
         } = self;
-        let settled = seat.sender.finish(connection, outcome, now)?;
+        let settled = Settled::by(&outcome, seat.sender.front().limits(), now);
+        let mut tally = tally;
         tally.count(mine, answered, dropped, settled);
-        Ok(settled)
+        drop(tally);
+        match seat.sender.finish(connection, outcome, now) {
+            Ok(settled) => Ok(settled),
+            Err(refused) => {
+                let mut tally = ended.lock(rt);
+                tally.take_back(mine, answered, dropped, settled);
+                Err(refused)
+            }
+        }
     }
 
     /// Claims the least candidate. Either it was read from the tape before, or the front has its texts, or the tape

@@ -64,6 +64,26 @@ impl<W: Ledger, S: AtStations> Books<W, S> {
         stations.add(station, more);
         *count += more;
     }
+
+    /// Takes `less` back from the count, from a worker's share and from a station's.
+    pub fn take_back(&mut self, worker: &mut Share<W>, station: &mut Share<S>, less: u64)
+        requires amounts { (less ≤ worker.old.amount) × (less ≤ station.old.amount) }
+        ensures count { self.new + less ≡ self.old }
+        ensures worker { (worker.new.amount + less ≡ worker.old.amount)
+            × (worker.new.parts ≡ worker.old.parts) }
+        ensures station { (station.new.amount + less ≡ station.old.amount)
+            × (station.new.parts ≡ station.old.parts) }
+    {
+        let Books {
+            count,
+            workers,
+            stations,
+            rest: _,
+        } = self;
+        workers.sub(worker, less);
+        stations.sub(station, less);
+        *count -= less;
+    }
 }
 
 /// The books of what has ended.
@@ -101,6 +121,32 @@ impl<N: Naming> Tally<N> {
         match settled {
             Settled::Answered(_) => self.answered.count(&mut feeder.answered, answered, 1),
             Settled::Dropped(_) => self.dropped.count(&mut feeder.dropped, dropped, 1),
+            Settled::Later(_) | Settled::Ready => {}
+        }
+    }
+
+    /// Takes back what `count` has counted.
+    pub fn take_back(
+        &mut self,
+        feeder: &mut FeederShare<N>,
+        answered: &mut Share<AnsweredAtStations<N>>,
+        dropped: &mut Share<DroppedAtStations<N>>,
+        settled: Settled,
+    )
+        requires parts { (answered.old.parts ≡ 1) × (dropped.old.parts ≡ 1) }
+        requires feeder { (answered_by settled ≤ feeder.old.answered)
+            × (dropped_by settled ≤ feeder.old.dropped) }
+        requires station { (answered_by settled ≤ answered.old.amount)
+            × (dropped_by settled ≤ dropped.old.amount) }
+        ensures feeder { Counts settled feeder.new feeder.old }
+        ensures answered { (answered.new.parts ≡ 1)
+            × (answered.new.amount + answered_by settled ≡ answered.old.amount) }
+        ensures dropped { (dropped.new.parts ≡ 1)
+            × (dropped.new.amount + dropped_by settled ≡ dropped.old.amount) }
+    {
+        match settled {
+            Settled::Answered(_) => self.answered.take_back(&mut feeder.answered, answered, 1),
+            Settled::Dropped(_) => self.dropped.take_back(&mut feeder.dropped, dropped, 1),
             Settled::Later(_) | Settled::Ready => {}
         }
     }

@@ -70,6 +70,16 @@ fn take_step<D: Disk, N: Naming, A: Abort>(rt: &A, post: &Post<D, N>, at: usize,
     }
 }
 
+// What the calls that wait for nobody find at the first peer, while one connection holds both debts.
+#[derive(Clone, Copy, Debug, PartialEq, Eq)]
+struct FreeFront {
+    owed: Option<u64>,
+    all_later: Option<bool>,
+    released: Option<u64>,
+    // Once both debts are put off.
+    all_later_then: Option<bool>,
+}
+
 // What comes of a debt that is put off at the first peer, and then again by a connection that does not hold it.
 #[derive(Clone, Copy, Debug, PartialEq, Eq)]
 struct PutOffDebts {
@@ -77,6 +87,7 @@ struct PutOffDebts {
     before: u64,
     then: u64,
     refused: (u64, PostFault),
+    free: FreeFront,
     sums: Sums,
 }
 
@@ -109,6 +120,38 @@ fn put_off<D: Disk, N: Naming, R: Wait>(rt: &R, post: &Post<D, N>) -> Result<(u6
     }
 }
 
+// Puts off the first debt that can be claimed at the first peer.
+fn put_next_off<D: Disk, N: Naming, R: Wait>(rt: &R, post: &Post<D, N>) -> Result<(), Fail>
+    requires { 0 < length post.now.names }
+{
+    let debt = post.claim(rt, 0, CxnId(4), 60)?.ok_or("a debt")?;
+    match post.try_put_off(0, CxnId(4), debt, 100) {
+        Ok(()) => Ok(()),
+        Err((_, fault)) => Err(Fail::from(fault)),
+    }
+}
+
+// Looks at the first peer, whose two debts this connection holds, releases them, and puts them off.
+fn look<D: Disk, N: Naming, R: Wait>(
+    rt: &R,
+    post: &Post<D, N>,
+    connection: CxnId,
+) -> Result<FreeFront, Fail>
+    requires { 0 < length post.now.names }
+{
+    let owed = post.try_owed(0);
+    let all_later = post.try_all_later(0);
+    let released = post.try_release(0, connection);
+    put_next_off(rt, post)?;
+    put_next_off(rt, post)?;
+    Ok(FreeFront {
+        owed,
+        all_later,
+        released,
+        all_later_then: post.try_all_later(0),
+    })
+}
+
 fn run_steps<D: Disk + Drop, N: Naming, R: Abort + Wait>(
     rt: &R,
     alloc: Global,
@@ -130,10 +173,12 @@ fn run_steps<D: Disk + Drop, N: Naming, R: Abort + Wait>(
     let refused = put_off(rt, &post)?;
     let before = claimed(rt, &post, CxnId(3), 59)?;
     let then = claimed(rt, &post, CxnId(3), 60)?;
+    let free = look(rt, &post, CxnId(3))?;
     Ok(PutOffDebts {
         before,
         then,
         refused,
+        free,
         sums: closed_sums(rt, post, lines, first, second, third)?,
     })
 }
@@ -165,6 +210,12 @@ fn rooms_are_counted_and_what_is_put_off_is_not(rt: HostRuntime) -> Result<(), F
                 fault: StationFault::NotHeld,
             },
         ),
+        free: FreeFront {
+            owed: Some(2),
+            all_later: Some(false),
+            released: Some(2),
+            all_later_then: Some(true),
+        },
         sums: Sums {
             taken: 2,
             answered: 0,
