@@ -39,4 +39,6 @@ module _ {D : Type 0} {g : Ghosts D} where
     pub unchanged : IfErr result (λ e. e ≢ Disk → IsRead old new)
     pub breaks : IsErrOf result Disk → IsBroken new
     pub works : OnOk result (IsBroken new → ⊥)
+    -- one that succeeds has met no fault of a disk: it has tried nothing again that failed
+    pub quiet : OnOk result (faults_of new ≡ faults_of old)
     pub kinds : IfErr result IsFlushFault

@@ -134,7 +134,7 @@ impl<D: Disk, N: Naming> Post<D, N> {
         match read {
             Ok(debt) => Ok(Some(debt)),
             Err(fault) => {
-                self.peers[peer].front.lock(rt).unclaim(connection, key);
+                self.front(rt, peer).unclaim(connection, key);
                 Err(fault)
             }
         }

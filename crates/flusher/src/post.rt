@@ -1,13 +1,17 @@
 // A post: the stations of all peers, each split into a front and a tape, and their locks.
-ghost use Rattle.std.specs.Prelude.{◌≡◌, ℕ, ◌+◌, ◌-◌, ◌<◌, ◌≤◌, ◌^◌, List, map, length};
-ghost use Rattle.std.specs.Prelude.{sum_by, IfOk, IfErr, OnOk, OnErr};
+ghost use Rattle.std.specs.Prelude.{◌≡◌, ℕ, ◌+◌, ◌-◌, ◌<◌, ◌≤◌, ◌^◌, [], List, map};
+ghost use Rattle.std.specs.Prelude.{None, length, sum_by, IfOk, IfErr, OnOk, OnErr};
 ghost use Rattle.std.specs.List.{All};
-ghost use Rattle.crossbeam_queue.specs.Passes.{ruled_capacity};
+ghost use Rattle.crossbeam_queue.specs.Passes.{IsPassOf, ruled_capacity, view};
+ghost use Rattle.flusher.specs.Kept.{IsKept};
 ghost use Rattle.flusher.specs.Names.{IsTableAt};
 ghost use Rattle.flusher.specs.Post.{IsFor, View, names_of, sums_at, sums_of, total};
 ghost use Rattle.flusher.specs.Sealed.{IsFlushed};
 ghost use Rattle.flusher.specs.Shares.{IsUnused};
-ghost use Rattle.peer_queue.specs.Words.{ledger_of};
+ghost use Rattle.note_queue.specs.Relay.{begun, may_pop, may_push};
+ghost use Rattle.note_queue.specs.Words.{front_of, kept_of, sending, taking, tape_of};
+ghost use Rattle.peer_queue.specs.Front.{IsFrontOf, IsPlaced};
+ghost use Rattle.peer_queue.specs.Words.{ledger_of, tape_of as station_tape};
 ghost use Rattle.recovery.specs.Words.{ledger_of as tape_ledger};
 
 use crate::front_desk::{FrontDesk, FrontSeat};
@@ -23,7 +27,8 @@ use crate::tape_desk::TapeDesk;
 use crate::{Blanks, Naming};
 use disk_model::Disk;
 use funnel::PeerName;
-use note_queue::NoteQueue;
+use note_queue::{NotePass, NoteQueue};
+use peer_queue::Station;
 use recovery::Tape;
 use std::alloc::{AllocError, Global};
 use std::marker::{Model, PhantomData};
@@ -136,26 +141,15 @@ impl<N: Naming> Openings<N> {
         let BlankQueue { queue, pass, .. } = blank;
         let opened = counted_at(&station);
         let acknowledged = station.totals();
-        let Ok((sender, side)) = note_queue::split(&queue, pass, station, place) else {
-            return Err(AllocError);
-        };
+        let (seat, tape) = ends_of(&queue, pass, station, place)?;
         let front = FrontDesk {
-            seat: FrontSeat {
-                place,
-                sender,
-                of: PhantomData,
-            },
+            seat,
             taken: self.taken.cut(opened.taken),
             answered: self.answered.cut(opened.answered),
             dropped: self.dropped.cut(opened.dropped),
             acknowledged,
             has_failed: false,
             ahead: ReadAhead::new(alloc),
-        };
-        let tape = TapeDesk {
-            place,
-            side,
-            of: PhantomData,
         };
         Ok(PeerDesk {
             name,
@@ -169,6 +163,41 @@ impl<N: Naming> Openings<N> {
             is_failing: AtomicBool::new(false),
         })
     }
+}
+
+// Splits a station at this place: all that is owed is at its front, nothing is held, and its tape is as it was opened.
+fn ends_of<D: Disk + Drop, N: Naming>(
+    queue: &NoteQueue,
+    pass: NotePass,
+    station: Station<D>,
+    place: usize,
+) -> Result<(FrontSeat<N>, TapeDesk<D, N>), AllocError>
+    requires pass { IsPassOf queue.now pass × (view pass ≡ begun) }
+    requires flushed { IsFlushed station }
+    requires kept { ∥ IsKept station ∥₁ }
+    requires tied { IsTableAt N.names.tables place queue.now.table.shared.table_id }
+    ensures front { IfOk result (λ ends. IsFrontOf place station (front_of ends.0.sender)) }
+    ensures tape { IfOk result (λ ends. IsPlaced place (station_tape station) (tape_of ends.1.side)
+        × (kept_of ends.1.side ≡ None)) }
+    ensures passes { IfOk result (λ ends.
+        (view (sending ends.0.sender) ≡ may_push (ledger_of station) [])
+        × (view (taking ends.1.side) ≡ may_pop (ledger_of station) [])) }
+    ensures places { IfOk result (λ ends. (ends.0.place ≡ place) × (ends.1.place ≡ place)) }
+{
+    let Ok((sender, side)) = note_queue::split(queue, pass, station, place) else {
+        return Err(AllocError);
+    };
+    let seat = FrontSeat {
+        place,
+        sender,
+        of: PhantomData,
+    };
+    let tape = TapeDesk {
+        place,
+        side,
+        of: PhantomData,
+    };
+    Ok((seat, tape))
 }
 
 impl<D: Disk + Drop, N: Naming> Post<D, N> {

@@ -226,7 +226,7 @@ fn take_in<N: Naming>(
     ensures unchanged { OnErr result ((mark.new ≡ mark.old)
         × (taken.new.amount ≡ taken.old.amount)
         × IsSame (front_of desk.old.seat.sender) (front_of desk.new.seat.sender)) }
-    ensures refuses { RefusesTaking peer (IsCountFull books.old) mark.old
+    ensures refuses { RefusesTaking peer (IsCountFull books.old) mark.old number
         (front_of desk.old.seat.sender) result }
     ensures kinds { IfErr result (IsLineFault (λ at. at ≡ peer)) }
     ensures part { taken.new.parts ≡ 1 }

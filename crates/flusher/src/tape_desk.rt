@@ -56,7 +56,7 @@ impl<D: Disk, N: Naming> TapeDesk<D, N> {
     ghost use Rattle.flusher.specs.Room.{HasNoRoomRewritten, TapeHasNoRoom};
     ghost use Rattle.ledger_core.specs.Index.{debt_at};
     ghost use Rattle.ledger_core.specs.State.{IsOwed};
-    ghost use Rattle.note_queue.specs.Calls.{IsNotCalled, TakesMore};
+    ghost use Rattle.note_queue.specs.Calls.{IsNotCalled, TakesMore, TellsFaults};
     ghost use Rattle.note_queue.specs.Ends.{IsSameEnd, KeepsFor};
     ghost use Rattle.note_queue.specs.Owns.{LeavesFirst};
     ghost use Rattle.note_queue.specs.Relay.{IsAt, WasSeen};
@@ -66,7 +66,7 @@ impl<D: Disk, N: Naming> TapeDesk<D, N> {
     ghost use Rattle.recovery.specs.Rotates.{RefusesRotation};
     ghost use Rattle.recovery.specs.Tape.{IsRead, StandsFor};
     ghost use Rattle.recovery.specs.Texts.{HasLengths, debts_at, lengths_of};
-    ghost use Rattle.recovery.specs.Words.{IsBroken, IsDebtFault, IsDue, IsRotateFault, OneHasRisen, faults_of};
+    ghost use Rattle.recovery.specs.Words.{IsBroken, IsDebtFault, IsDue, IsRotateFault, faults_of};
     ghost use Rattle.recovery.specs.Words.{generation_of, ledger_of, pending_of};
 
     /// Puts on the tape what was sent ([`Side::pull`]). It calls no disk.
@@ -125,6 +125,8 @@ impl<D: Disk, N: Naming> TapeDesk<D, N> {
             → (IsBroken (tape_of self.old.side) → ⊥) → IsOk result }
         ensures refuses { RefusesFlush (tape_of self.old.side) (tape_of self.new.side) result }
         ensures keeps { IsSameEnd self.old.side self.new.side }
+        ensures quiet { OnOk result
+            (faults_of (tape_of self.new.side) ≡ faults_of (tape_of self.old.side)) }
     {
         let TapeDesk { side, .. } = self;
         let flushed = side.flush()?;
@@ -161,7 +163,8 @@ impl<D: Disk, N: Naming> TapeDesk<D, N> {
         ensures generation { IsDue (tape_of self.old.side) → IfOk result (λ rotated.
             IsSome rotated × (generation_of (tape_of self.new.side)
             ≡ generation_of (tape_of self.old.side) + 1)) }
-        ensures some { IfOk result (λ rotated. IfSome rotated (IsFlushOf (tape_of self.new.side))) }
+        ensures ok { IfOk result (λ rotated. IfSome rotated (IsFlushOf (tape_of self.new.side))
+            × (faults_of (tape_of self.new.side) ≡ faults_of (tape_of self.old.side))) }
         ensures acknowledges { IsDue (tape_of self.old.side)
             → (h : History) → StandsFor (tape_of self.old.side) h
             → Acknowledges h (tape_of self.old.side) (tape_of self.new.side) result }
@@ -194,6 +197,8 @@ impl<D: Disk, N: Naming> TapeDesk<D, N> {
             ≡ generation_of (tape_of self.old.side) + 1) }
         ensures refuses { RefusesRotation (tape_of self.old.side) (tape_of self.new.side) result }
         ensures keeps { IsSameEnd self.old.side self.new.side }
+        ensures quiet { OnOk result
+            (faults_of (tape_of self.new.side) ≡ faults_of (tape_of self.old.side)) }
     {
         let TapeDesk { side, .. } = self;
         side.rotate()?;
@@ -214,9 +219,7 @@ impl<D: Disk, N: Naming> TapeDesk<D, N> {
         ensures broken { IsErrOf result TapeFault.Broken ↔ IsBroken (tape_of self.old.side) }
         ensures refuses { IfErr result (λ e. IsDebtFault e
             × (e ≢ TapeFault.Broken → IsOwed (ledger_of (tape_of self.old.side)) key)) }
-        ensures cause { (h : History) → StandsFor (tape_of self.old.side) h
-            → IsErrOf result TapeFault.Disk → OneHasRisen (faults_of (tape_of self.old.side))
-            (faults_of (tape_of self.new.side)) }
+        ensures faults { TellsFaults (tape_of self.old.side) (tape_of self.new.side) result }
         ensures reads { IsRead (tape_of self.old.side) (tape_of self.new.side) }
         ensures keeps { IsSameEnd self.old.side self.new.side }
     {
@@ -234,9 +237,7 @@ impl<D: Disk, N: Naming> TapeDesk<D, N> {
         ensures broken { IsErrOf result TapeFault.Broken ↔ IsBroken (tape_of self.old.side) }
         ensures refuses { IsErrOf result TapeFault.Disk
             → (key : ℕ) × Contains keys.now key × IsOwed (ledger_of (tape_of self.old.side)) key }
-        ensures cause { (h : History) → StandsFor (tape_of self.old.side) h
-            → IsErrOf result TapeFault.Disk → OneHasRisen (faults_of (tape_of self.old.side))
-            (faults_of (tape_of self.new.side)) }
+        ensures faults { TellsFaults (tape_of self.old.side) (tape_of self.new.side) result }
         ensures reads { IsRead (tape_of self.old.side) (tape_of self.new.side) }
         ensures keeps { IsSameEnd self.old.side self.new.side }
         ensures kinds { IfErr result IsDebtFault }

@@ -1,13 +1,16 @@
 -- What the calls of a side do to its pass and to its tape.
-use Rattle.std.specs.Prelude.{◌≡◌, ◌↔◌, ◌<◌, List, ◌++◌}
+use Rattle.std.specs.Prelude.{◌≡◌, ◌↔◌, ◌<◌, List, ◌++◌, Result, IsErrOf, OnOk}
 use Rattle.crossbeam_queue.specs.Passes.{Pass, view, IsSamePass}
 use Rattle.disk_model.specs.declared.Disk.{Ghosts}
 use Rattle.ledger_core.specs.declared.note.Note.{Note}
 use Rattle.ledger_core.specs.State.{IsLegal}
-use Rattle.recovery.specs.Notes.{most_pending}
-use Rattle.recovery.specs.Words.{IsBroken, RefusesNote, disks_of, ledger_of, pending_of, place_of}
+use Rattle.recovery.specs.Notes.{History, most_pending}
+use Rattle.recovery.specs.Tape.{StandsFor}
+use Rattle.recovery.specs.Words.{Continues, IsBroken, OneHasRisen, RefusesNote, disks_of, faults_of, ledger_of}
+use Rattle.recovery.specs.Words.{pending_of, place_of}
 use Rattle.recovery.specs.declared.fault.TapeFault.{TapeFault}
-use Rattle.recovery.specs.declared.fault.TapeFault.TheVariants.{Broken, NoMemory, PendingFull, Note as RefusedNote}
+use Rattle.recovery.specs.declared.fault.TapeFault.TheVariants.{Broken, Disk, NoMemory, PendingFull}
+use Rattle.recovery.specs.declared.fault.TapeFault.TheVariants.{Note as RefusedNote}
 use Rattle.recovery.specs.declared.tape.Tape.{Tape}
 use Rattle.note_queue.specs.declared.rule.PassLog.{PassLog}
 
@@ -24,6 +27,17 @@ module _ {D : Type 0} {g : Ghosts D} where
     pub disks : disks_of new ≡ disks_of old
     pub place : place_of new ≡ place_of old
     pub works : IsBroken old ↔ IsBroken new
+
+  -- The tape goes on as the same one; and a call that succeeds has met no fault of a disk, so that it has tried nothing
+  -- again that failed.
+  pub record GoesOn {T : Type 0} (old new : Tape D g) (result : Result T TapeFault) : Type 0 where
+    pub continues : Continues old new
+    pub quiet : OnOk result (faults_of new ≡ faults_of old)
+
+  -- What the disks' counts of faults tell of a read: one that succeeds has met none, and Disk has one as its cause.
+  pub record TellsFaults {T : Type 0} (old new : Tape D g) (result : Result T TapeFault) : Type 0 where
+    pub quiet : OnOk result (faults_of new ≡ faults_of old)
+    pub cause : (h : History) → StandsFor old h → IsErrOf result Disk → OneHasRisen (faults_of old) (faults_of new)
 
   -- the tape refuses this note with this fault
   abbrev pub IsRefusedFor : Tape D g → Note → TapeFault → Type 0

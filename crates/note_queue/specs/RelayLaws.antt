@@ -86,7 +86,8 @@ pops-relayed port log may note items logs h at =
       refl,
     )
 
--- A push is refused, or a pop finds nothing: neither the queue nor its passes change, so the rule holds as before.
+-- A push is refused, a look finds the queue full, or a pop finds nothing: neither the queue nor its passes change, so
+-- the rule holds as before.
 pub stays : (holds : List Note → List PassLog → Type 0) (port : ℕ) (log : PassLog)
     → Learns holds port log (λ items. HoldsWith holds log items)
 stays holds port log items logs h at = (logs, port, h, at)

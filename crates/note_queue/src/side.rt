@@ -4,7 +4,7 @@ ghost use Rattle.std.specs.Prelude.{IfErr, IfOk, IsErrOf, IsOk, IsTrue, OnErr, O
 ghost use Rattle.crossbeam_queue.specs.Passes.{view};
 ghost use Rattle.ledger_core.specs.State.{State, after};
 ghost use Rattle.recovery.specs.Words.{IsBroken, IsDue, generation_of, ledger_of, pending_of, place_of};
-ghost use Rattle.note_queue.specs.Calls.{IsNotCalled, IsRefusedFor, TakesMore};
+ghost use Rattle.note_queue.specs.Calls.{GoesOn, IsNotCalled, IsRefusedFor, TakesMore, TellsFaults};
 ghost use Rattle.note_queue.specs.Owns.{IsKept, IsOwner, LeavesFirst, kept_list, put_on};
 ghost use Rattle.note_queue.specs.Relay.{IsAt, WasSeen, may_pop};
 
@@ -39,7 +39,7 @@ impl<D: Disk> Side<D> {
     ghost use Rattle.recovery.specs.Rotates.{RefusesRotation, Rotates};
     ghost use Rattle.recovery.specs.Tape.{IsRead, StandsFor};
     ghost use Rattle.recovery.specs.Texts.{HasLengths, debts_at, lengths_of};
-    ghost use Rattle.recovery.specs.Words.{Continues, IsDebtFault, OneHasRisen, faults_of};
+    ghost use Rattle.recovery.specs.Words.{IsDebtFault};
     ghost use Rattle.note_queue.specs.Ends.{IsSameEnd, KeepsFor};
 
     // The side of a tape on which nothing pends, with a pass that has taken nothing yet.
@@ -141,7 +141,7 @@ impl<D: Disk> Side<D> {
             → (IsBroken self.old.tape → ⊥) → IsOk result }
         ensures refuses { RefusesFlush self.old.tape self.new.tape result }
         ensures keeps { IsSameEnd self.old self.new }
-        ensures continues { Continues self.old.tape self.new.tape }
+        ensures goes_on { GoesOn self.old.tape self.new.tape result }
     {
         self.tape.flush()
     }
@@ -168,7 +168,7 @@ impl<D: Disk> Side<D> {
         ensures none_pends { OnOk result (pending_of self.new.tape ≡ 0) }
         ensures refuses { RefusesRotation self.old.tape self.new.tape result }
         ensures keeps { IsSameEnd self.old self.new }
-        ensures continues { Continues self.old.tape self.new.tape }
+        ensures goes_on { GoesOn self.old.tape self.new.tape result }
     {
         self.tape.rotate()
     }
@@ -186,8 +186,7 @@ impl<D: Disk> Side<D> {
         ensures broken { IsErrOf result TapeFault.Broken ↔ IsBroken self.old.tape }
         ensures refuses { IfErr result (λ e. IsDebtFault e
             × (e ≢ TapeFault.Broken → IsOwed (ledger_of self.old.tape) key)) }
-        ensures cause { (h : History) → StandsFor self.old.tape h → IsErrOf result TapeFault.Disk
-            → OneHasRisen (faults_of self.old.tape) (faults_of self.new.tape) }
+        ensures faults { TellsFaults self.old.tape self.new.tape result }
         ensures reads { IsRead self.old.tape self.new.tape }
         ensures keeps { IsSameEnd self.old self.new }
         ensures moments { LeavesFirst (view self.old.pass).got_on (view self.old.pass).got
@@ -208,8 +207,7 @@ impl<D: Disk> Side<D> {
         ensures broken { IsErrOf result TapeFault.Broken ↔ IsBroken self.old.tape }
         ensures refuses { IfErr result (λ e. IsDebtFault e × (e ≡ TapeFault.Disk
             → (key : ℕ) × Contains keys.now key × IsOwed (ledger_of self.old.tape) key)) }
-        ensures cause { (h : History) → StandsFor self.old.tape h → IsErrOf result TapeFault.Disk
-            → OneHasRisen (faults_of self.old.tape) (faults_of self.new.tape) }
+        ensures faults { TellsFaults self.old.tape self.new.tape result }
         ensures reads { IsRead self.old.tape self.new.tape }
         ensures keeps { IsSameEnd self.old self.new }
         ensures moments { LeavesFirst (view self.old.pass).got_on (view self.old.pass).got
