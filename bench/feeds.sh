@@ -128,6 +128,8 @@ END
   rate
 }
 
-# greatest FILE, least FILE: the greatest number in a file of numbers, and the least.
+# greatest FILE, least FILE, middle FILE: the greatest number in a file of numbers, the least, and the middle one (of
+# two middle ones the lesser).
 greatest() { sort -n "$1" | tail -n 1; }
 least() { sort -n "$1" | head -n 1; }
+middle() { sort -n "$1" | sed -n "$((($(wc -l <"$1") + 1) / 2))p"; }

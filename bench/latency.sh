@@ -26,7 +26,7 @@ beside_flushes() {
     "$1/crates/tool_latency/out/tool_latency" "$run" "$flushes" >"$run/told"
   busy=$(awk '$2 == "refused" { print $1 }' "$run/told")
   while read -r count call within _; do
-    [ "$call" != refused ] || continue
+    [ "$call" != refused ] || call='of these, refused as Busy'
     [ "$call" != try_claim ] || call="try_claim, $busy of them Busy"
     ratio "$3beside flushes of $2 ms more, $count $call: 99 of 100 within $((within / 1000)) us, beside 1 ms (aim 1)" \
       "$within" 1000000

@@ -8,7 +8,9 @@
 #     is, where the processors decide;
 #   inn: with one peer, and where Debian's inn2 is installed, how many articles a second that peer gets, between its
 #     first and its last, of 1, 4 and 32 KiB (of these a quarter as many) over 1, 2 and 4 connections, beside INN's
-#     innfeed, which works off as many from a backlog file on the same disk (aim: at least 1.3).
+#     innfeed, which works off as many from a backlog file on the same disk (aim: at least 1.3). The two run by turns.
+#     The second line of a cell has the middle runs of both: on a machine where rates differ by half from run to run,
+#     the best of each says more of the machine than of the programs.
 #
 # $BEFORE may name another checkout of this repository, in which the program is built. It runs by turns with this one's,
 # and for `peers` it is printed how many times its lines a second ours are (aim for whole runs: at least 2 with four
@@ -102,6 +104,8 @@ beside_inn() {
       ours=$(greatest ours)
       ratio "syncs of 5 ms more, $size octets, $connections connections: $ours a second, beside INN's $(greatest inns) (aim 1.3)" \
         "$ours" "$(greatest inns)"
+      ours=$(middle ours)
+      ratio "  by the middle of $runs runs: $ours a second, beside INN's $(middle inns) (aim 1.3)" "$ours" "$(middle inns)"
     done
   done
 }

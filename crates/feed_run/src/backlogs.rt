@@ -89,14 +89,14 @@ fn backlog_files<'a, F: AllocGlobal + Files<File = File>>(
     Ok(backlogs)
 }
 
-// Logs what became of a file: a warning if lines of it are malformed, or if it was left in place.
+// Logs what became of a file: a warning if something of it was left out, or if it was left in place.
 fn log_import<R: Log>(rt: &R, imported: &Imported) {
     let Imported {
         path,
         report,
         is_left,
     } = imported;
-    if report.malformed.is_some() {
+    if report.malformed.is_some() || report.has_rest {
         warn!(rt; "{}: {}", path, report);
     } else {
         info!(rt; "{}: {}", path, report);

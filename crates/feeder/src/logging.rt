@@ -70,7 +70,7 @@ pub(crate) fn log_over<R: Log>(rt: &R, name: &str, connection: &PeerConnection) 
 /// A connection to a peer failed at the article under a token, which is offered again later. This is a warning: an
 /// administrator should look at an article that stops its peer again and again.
 pub(crate) fn log_postponed<R: Log>(rt: &R, name: &str, token: &Token, reason: CloseReason<'_>) {
-    warn!(rt; "{}: connection failed at {} ({}); deferred", name, token_text(token), reason);
+    warn!(rt; "{}: connection failed at {} ({}); put off", name, token_text(token), reason);
 }
 
 /// A peer gets no more debts in this run.
