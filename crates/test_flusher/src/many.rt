@@ -59,20 +59,27 @@ fn refusal(flushed: Result<Receipt, PostFault>) -> Result<PostFault, Fail> {
     }
 }
 
-// How many of the lines are taken, and how many are refused.
+// How many of the lines are taken, and how many are refused since as many notes pend as may. Any other refusal ends the
+// test.
 fn take_lines<N: Naming, R: Wait>(
     rt: &R,
     post: &Post<FuseDisk<MemDisk>, N>,
     lines: &mut IntakeShare<N>,
     count: u64,
-) -> (u64, u64) {
+) -> Result<(u64, u64), Fail> {
+    let full = PostFault::Station {
+        peer: 0,
+        fault: StationFault::Tape(TapeFault::PendingFull),
+    };
     let mut taken: u64 = 0;
     for _ in 0..count {
-        if take(rt, post, LINE, lines).is_ok() {
-            taken = taken.saturating_add(1);
+        match take(rt, post, LINE, lines) {
+            Ok(_) => taken = taken.saturating_add(1),
+            Err(fault) if fault == full => {}
+            Err(fault) => return Err(Fail::from(fault)),
         }
     }
-    (taken, count.saturating_sub(taken))
+    Ok((taken, count.saturating_sub(taken)))
 }
 
 // Takes the lines and flushes them.
@@ -83,11 +90,11 @@ fn flush_full<N: Naming, R: Wait>(
     post: &Post<FuseDisk<MemDisk>, N>,
     lines: &mut IntakeShare<N>,
 ) -> Result<FullFlushes, Fail> {
-    let (taken, refused) = take_lines(rt, post, lines, LINES);
+    let (taken, refused) = take_lines(rt, post, lines, LINES)?;
     let full = post.flush_all(rt, &Free)?.number();
-    take_lines(rt, post, lines, refused);
+    take_lines(rt, post, lines, refused)?;
     let rest = post.flush_all(rt, &Free)?.number();
-    take_lines(rt, post, lines, 1);
+    take_lines(rt, post, lines, 1)?;
     Ok(FullFlushes {
         taken,
         refused,
