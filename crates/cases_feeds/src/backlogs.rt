@@ -65,7 +65,9 @@ fn take_files<R: AllocGlobal + Threads + Wait + Print + Send + Sync + Drop + 'st
     let funnel = row.path("funnel")?;
     let what = "a file for each peer, and a line of the funnel";
     print_run(rt, host, &row, what, feed_from(&funnel))?;
-    print_run(rt, host, &row, "and is owed", list_owed())
+    print_run(rt, host, &row, "and is owed", list_owed())?;
+    fs::write(&host, p.as_str(), b"a/7 <s@y>")?;
+    print_run(rt, host, &row, "a rest alone", feed_from_backlogs())
 }
 
 // What is not a regular file is not touched, and nothing else is done.
