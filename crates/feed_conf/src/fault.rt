@@ -4,11 +4,11 @@ ghost use Rattle.feed_conf.specs.Faults.{conf_fault_name};
 ghost use Rattle.feed_conf.specs.declared.fault.ConfFaultKind.TheVariants.{NoMemory};
 
 use std::alloc::{AllocError, AllocFailed};
+use std::fmt::{self, Display, Formatter, Write};
 use thiserror::Error;
 
 /// What is wrong with a configuration, in the order in which the kinds are numbered.
 #[derive(Clone, Copy, Debug, PartialEq, Eq, Error)]
-#[error("{}", self.name())]
 pub enum ConfFaultKind {
     /// A key of the profile has no value, or a word that is not a key stands where a key is expected.
     NoValue,
@@ -46,6 +46,12 @@ impl ConfFaultKind {
             ConfFaultKind::Range => "Range",
             ConfFaultKind::NoMemory => "NoMemory",
         }
+    }
+}
+
+impl Display for ConfFaultKind {
+    fn fmt<W: Write>(&self, f: &mut Formatter<W>) -> fmt::Result {
+        f.write_str(self.name())
     }
 }
 

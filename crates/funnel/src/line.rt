@@ -8,11 +8,11 @@ ghost use Rattle.funnel.specs.Names.{is_msg_id, is_token};
 use crate::names::{Form, MsgId, MsgIdForm, PeerName, Token, TokenForm};
 use crate::words::next_word;
 use std::alloc::{AllocError, Global};
+use std::fmt::{self, Display, Formatter, Write};
 use thiserror::Error;
 
 /// Why a funnel line is not good: its first fault, `TooLong` before the others.
 #[derive(Clone, Copy, Debug, PartialEq, Eq, Error)]
-#[error("{}", self.name())]
 pub enum LineFault {
     /// It has no word.
     NoToken,
@@ -38,6 +38,12 @@ impl LineFault {
             Self::TooLong => "TooLong",
             Self::NoMemory => "NoMemory",
         }
+    }
+}
+
+impl Display for LineFault {
+    fn fmt<W: Write>(&self, f: &mut Formatter<W>) -> fmt::Result {
+        f.write_str(self.name())
     }
 }
 

@@ -17,6 +17,7 @@ use crate::spot::{DebtEntry, Spot};
 use funnel::{MsgId, Token};
 use std::alloc::{AllocError, AllocFailed, Global};
 use std::collections::BTreeMap;
+use std::fmt::{self, Display, Formatter, Write};
 use thiserror::Error;
 
 // How many octets a record has on a tape before its payload: a gate, and the payload's length.
@@ -24,7 +25,6 @@ const RECORD_HEAD_OCTETS: u64 = 5;
 
 /// Why a note is refused. The ledger is unchanged.
 #[derive(Clone, Copy, Debug, PartialEq, Eq, Error)]
-#[error("{}", self.name())]
 pub enum LedgerFault {
     /// An Owe of a line that may not be noted next: a funnel line at or below the mark, a line of a source that is not
     /// the open one, or a line of the open source at or below its mark. A Seen at or below the mark, or a Closed of a
@@ -49,6 +49,12 @@ impl LedgerFault {
             LedgerFault::CountFull => "CountFull",
             LedgerFault::NoMemory => "NoMemory",
         }
+    }
+}
+
+impl Display for LedgerFault {
+    fn fmt<W: Write>(&self, f: &mut Formatter<W>) -> fmt::Result {
+        f.write_str(self.name())
     }
 }
 

@@ -4,11 +4,11 @@ ghost use Rattle.reply_reader.specs.Faults.{reply_fault_name};
 ghost use Rattle.std.specs.Prelude.{◌≡◌};
 
 use std::alloc::AllocError;
+use std::fmt::{self, Display, Formatter, Write};
 use thiserror::Error;
 
 /// Why no reply is read.
 #[derive(Clone, Copy, Debug, PartialEq, Eq, Error)]
-#[error("{}", self.name())]
 pub enum ReplyFault {
     /// The first unread line is longer than 2,048 octets with its end, or 2,048 octets without an LF are unread.
     TooLong,
@@ -31,6 +31,12 @@ impl ReplyFault {
             ReplyFault::NoMemory => "NoMemory",
             ReplyFault::Failed => "Failed",
         }
+    }
+}
+
+impl Display for ReplyFault {
+    fn fmt<W: Write>(&self, f: &mut Formatter<W>) -> fmt::Result {
+        f.write_str(self.name())
     }
 }
 

@@ -10,11 +10,11 @@ use ledger_core::LedgerFault;
 use peer_queue::StationFault;
 use recovery::TapeFault;
 use std::alloc::{AllocError, AllocFailed};
+use std::fmt::{self, Display, Formatter, Write};
 use thiserror::Error;
 
 /// Why a step is refused.
 #[derive(Clone, Copy, Debug, PartialEq, Eq, Error)]
-#[error("{}", self.name())]
 pub enum Fault {
     /// No peer has this name.
     NoPeer,
@@ -74,6 +74,12 @@ impl Fault {
             StationFault::Tape(fault) => Fault::from_tape(fault),
             StationFault::NoMemory => Fault::NoMemory,
         }
+    }
+}
+
+impl Display for Fault {
+    fn fmt<W: Write>(&self, f: &mut Formatter<W>) -> fmt::Result {
+        f.write_str(self.name())
     }
 }
 
