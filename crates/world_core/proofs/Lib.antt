@@ -68,3 +68,4 @@ pub mod ConnectionsTick
 pub mod ConnectionMade
 mod Rows
 mod ConnectionRows
+mod RunRows
