@@ -168,8 +168,8 @@ begin() {
         echo "backlog-directory: $run/feed/backlog"
         echo "status-file: $run/feed/status"
         peers "$feeder" "$port"; } >feed/conf
-      echo "innfeed!:!*:Tf,Wnm*:$run/feed/batch"
-      sites ours innfeed!
+      echo "innfeed-tapes!:!*:Tf,Wnm*:$run/feed/batch"
+      sites ours innfeed-tapes!
     else
       { echo "news-spool: $run/here/spool/articles"
         echo "backlog-directory: $run/channel/backlog"
