@@ -7,7 +7,7 @@
 #   the growth from 10,000 to 100,000 articles of 1 KiB (aim: under 11).
 # It fails on none.
 . "$(dirname "$(readlink -f "${BASH_SOURCE[0]}")")/lib.sh"
-build tool_bench
+build_benchmark tool_bench
 
 cold=134217728
 for octets in 1024 32768; do

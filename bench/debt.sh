@@ -11,13 +11,13 @@
 # which cc builds, counts what is asked of malloc.
 #
 # CHECKOUT is another checkout of this repository, of which the same is told beside: its program has
-# to be built, and to know the word `debt` (crates/tool_bench/src/ways.rt). Where that program is missing,
-# or older than its sources, nothing is measured, and the status is 70.
+# to be built (bench/build tool_bench), and to know the word `debt` (ways.rt.in of tool_bench). If that
+# program is missing, or older than its sources, nothing is measured, and the status is 70.
 #
 # Other programs that run at the same time move the time. It fails on none.
 . "$(dirname "$(readlink -f "${BASH_SOURCE[0]}")")/lib.sh"
 [ $# -eq 0 ] || built "$1"
-build tool_bench
+build_benchmark tool_bench
 run=$(mktemp -d)
 memory=/dev/shm
 [ -w "$memory" ] || memory=${TMPDIR:-/tmp}
@@ -56,8 +56,8 @@ measured() {
   echo "a debt owed, $(each 5 "$few" "$many") blocks, $(each 7 "$few" "$many") octets ($commit)"
 }
 
-measured "$top/crates/tool_bench/out/tool_bench"
+measured "$bench_program"
 if [ $# -gt 0 ]; then
   commit=$(git -C "$1" rev-parse --short HEAD)
-  measured "$1/crates/tool_bench/out/tool_bench"
+  measured "$(program_of "$1" tool_bench)"
 fi

@@ -15,7 +15,7 @@
 #
 # Other programs that run at the same time move each ratio by up to a half. It fails on none.
 . "$(dirname "$(readlink -f "${BASH_SOURCE[0]}")")/lib.sh"
-build tool_bench
+build_benchmark tool_bench
 
 for order in rising scattered; do
   for pattern in together waiting again held; do

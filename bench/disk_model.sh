@@ -4,14 +4,15 @@
 # (bench/flushes.c, built by cc), the best of five runs of each, by turns (aim: under 1.2 for 256 notes).
 #
 # $BEFORE may name another checkout of this repository, in which the program of the benchmarks is built from this
-# checkout's crates/tool_bench: copy that folder there first. Its flushes are then timed by the same turns, and it is
-# printed how long a flush takes beside one of that checkout's: whole (aim: at most 1.05), and each less what the plain
-# program takes for as many octets (aims: at most 0.4, 0.3 and 0.1).
+# checkout's sources: copy bench/crates/tool_bench there first (or, into one that still has crates/tool_bench, the
+# folder crates/tool_bench of a tree that `tools/lay-out bench FOLDER` has laid out). Its flushes are then timed by the
+# same turns, and it is printed how long a flush takes beside one of that checkout's: whole (aim: at most 1.05), and
+# each less what the plain program takes for as many octets (aims: at most 0.4, 0.3 and 0.1).
 #
 # A device that others use at the same time moves the ratios. It fails on none.
 . "$(dirname "$(readlink -f "${BASH_SOURCE[0]}")")/lib.sh"
 [ -z "${BEFORE-}" ] || built "$BEFORE"
-build tool_bench
+build_benchmark tool_bench
 run=$(mktemp -d -p "${1:-${TMPDIR:-/tmp}}")
 trap 'rm -rf "$run"' EXIT
 cc -O2 -o "$run/flushes" "$top/bench/flushes.c"

@@ -4,7 +4,7 @@
 # same replies; the best of five runs of each. The making of the blocks is in neither. It prints the
 # ratio for articles of 1 KiB and of 32 KiB (aim at 32 KiB: under 1.5). It fails on none.
 . "$(dirname "$(readlink -f "${BASH_SOURCE[0]}")")/lib.sh"
-build tool_bench
+build_benchmark tool_bench
 
 for octets in 1024 32768; do
   drive=$(best 5 bench event_loop drive 20000 "$octets")

@@ -2,7 +2,7 @@
 # How the time to read a configuration grows from 1,000 peers to 10,000: the best of five readings of each. Linear growth
 # is 10, and the aim is under 13. It fails on no ratio.
 . "$(dirname "$(readlink -f "${BASH_SOURCE[0]}")")/lib.sh"
-build tool_bench
+build_benchmark tool_bench
 
 few=$(best 5 bench feed_conf read 1000)
 many=$(best 5 bench feed_conf read 10000)

@@ -5,7 +5,7 @@
  *
  *   flushes FILE COUNT OCTETS
  *
- * It prints `COUNT flushes N nanoseconds`, as a benchmark of crates/tool_bench does.
+ * It prints `COUNT flushes N nanoseconds`, as a benchmark of bench/crates/tool_bench does.
  */
 #include <fcntl.h>
 #include <stdio.h>

@@ -1,8 +1,8 @@
 #!/usr/bin/env bash
 # latency.sh [FLUSHES [DIRECTORY]]: how long calls take that begin while their peer's tape is flushed
-# (crates/tool_latency). Over files of a new directory in this one, or in that of temporary files, a post of two peers is
-# kept at work until FLUSHES flushes (40) have ended, on a disk on which a flush of a tape takes 5, 20 and 100 ms longer,
-# half of that in each of its two syncs (bench/slow_disk.c, built by cc). One worker takes a line each 100 us, one claims
+# (bench/crates/tool_latency). Over files of a new directory in this one, or in that of temporary files, a post of two
+# peers is kept at work until FLUSHES flushes (40) have ended, on a disk on which a flush of a tape takes 5, 20 and 100
+# ms longer, half of that in each of its two syncs (bench/slow_disk.c, built by cc). One worker takes a line each 100 us, one claims
 # the debts of the first peer, whose texts its front holds, and finishes them, and one tries to claim debts of the second
 # that only the tape has. Of the calls that begin beside such a flush it prints the time that 99 of 100 kept within, as a
 # ratio to 1 ms (aim: at most 1). A `try_claim` is to be refused within that time, as `Busy`: it is printed how many were.
@@ -13,7 +13,7 @@
 # Other programs that run at the same time move these. It fails on none.
 . "$(dirname "$(readlink -f "${BASH_SOURCE[0]}")")/lib.sh"
 [ -z "${BEFORE-}" ] || built "$BEFORE" tool_latency
-build tool_latency
+build_benchmark tool_latency
 flushes=${1:-40}
 run=$(mktemp -d -p "${2:-${TMPDIR:-/tmp}}")
 trap 'rm -rf "$run"' EXIT
@@ -21,9 +21,10 @@ cc -O2 -shared -fPIC -o "$run/slow_disk.so" "$top/bench/slow_disk.c"
 
 # beside_flushes CHECKOUT MILLISECONDS WORDS: prints what the calls took in that checkout's program.
 beside_flushes() {
-  local count call within busy
+  local program count call within busy
+  program=$(program_of "$1" tool_latency)
   SYNC_MS=$(awk -v flush="$2" 'BEGIN { print flush / 2 }') LD_PRELOAD=$run/slow_disk.so \
-    "$1/crates/tool_latency/out/tool_latency" "$run" "$flushes" >"$run/told"
+    "$program" "$run" "$flushes" >"$run/told"
   busy=$(awk '$2 == "refused" { print $1 }' "$run/told")
   while read -r count call within _; do
     [ "$call" != refused ] || call='of these, refused as Busy'

@@ -13,7 +13,7 @@
 #
 # Other programs that run at the same time move the ratio. It fails on none.
 . "$(dirname "$(readlink -f "${BASH_SOURCE[0]}")")/lib.sh"
-build tool_bench
+build_benchmark tool_bench
 run=$(mktemp -d)
 trap 'rm -rf "$run"' EXIT
 

@@ -30,7 +30,7 @@
 # Other programs that run at the same time move these. It fails on none.
 . "$(dirname "$(readlink -f "${BASH_SOURCE[0]}")")/lib.sh"
 [ -z "${BEFORE-}" ] || built "$BEFORE"
-build tool_bench
+build_benchmark tool_bench
 parts=("${@:2}")
 [ ${#parts[@]} -gt 0 ] || parts=(growth plain memory openings rotations claims instructions)
 run=$(mktemp -d -p "${1:-${TMPDIR:-/tmp}}")
@@ -156,10 +156,10 @@ claims() {
 
 # executed PROGRAM WORD ..: how many instructions a run takes.
 executed() {
-  local checkout=$top
-  [ "$1" = bench ] || checkout=$BEFORE
+  local program=$bench_program
+  [ "$1" = bench ] || program=$other_program
   shift
-  valgrind --tool=callgrind --callgrind-out-file=/dev/null "$checkout/crates/tool_bench/out/tool_bench" "$@" 2>&1 >"$run/told" |
+  valgrind --tool=callgrind --callgrind-out-file=/dev/null "$program" "$@" 2>&1 >"$run/told" |
     awk '$2 == "Collected" { print $4 }'
 }
 

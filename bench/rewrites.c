@@ -5,7 +5,7 @@
  *
  *   rewrites FILE COUNT OCTETS
  *
- * It prints `COUNT rewrites N nanoseconds`, as a benchmark of crates/tool_bench does.
+ * It prints `COUNT rewrites N nanoseconds`, as a benchmark of bench/crates/tool_bench does.
  */
 #include <fcntl.h>
 #include <stdio.h>

@@ -9,7 +9,7 @@
 #     about 1).
 # Other programs that run at the same time move these. It fails on none.
 . "$(dirname "$(readlink -f "${BASH_SOURCE[0]}")")/lib.sh"
-build tool_bench
+build_benchmark tool_bench
 
 few=$(best 5 bench world_core run 10000) many=$(best 5 bench world_core run 100000)
 ratio "World::run, $((many / 100000)) ns a line to four peers, growth from 10,000 to 100,000 lines" \
