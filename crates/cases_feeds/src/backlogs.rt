@@ -2,7 +2,8 @@
 use crate::peers::{feed_from, feed_from_backlogs};
 use crate::row::{FeedCase, list_owed, print_output};
 use anyhow::Result;
-use cli::{Order, Source};
+use cli::Order;
+use feed_ends::Source;
 use std::fs;
 use std::io::pipe;
 use std::os::fd::AsRawFd;

@@ -1,7 +1,8 @@
 // Rows of funnels that are directories of segments.
 use crate::row::{FeedCase, NOBODY, RunOutput, list_owed, print_output};
 use anyhow::{Result, anyhow};
-use cli::{Order, Source};
+use cli::Order;
+use feed_ends::Source;
 use std::fs::{self, OpenOptions};
 use std::io::{self, Write, pipe};
 use std::os::fd::AsRawFd;

@@ -1,6 +1,6 @@
 // Feeds by a clock that runs faster than the system's, with a file in place of standard error.
-use cli::{FeedEnd, Feeds, Source};
 use feed_conf::Conf;
+use feed_ends::{FeedEnd, Feeds, Source};
 use feed_run::{System, SystemFeeds, ThreadRuntime, feed_with};
 use resolver::SystemLookUp;
 use std::alloc::Global;

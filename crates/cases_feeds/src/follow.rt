@@ -2,7 +2,8 @@
 use crate::feeds::Fast;
 use crate::row::{FeedCase, NOBODY, RunOutput, list_owed, print_lines, print_output};
 use anyhow::{Result, anyhow};
-use cli::{Order, Source};
+use cli::Order;
+use feed_ends::Source;
 use feed_run::System;
 use std::alloc::Global;
 use std::fs::{self, OpenOptions};

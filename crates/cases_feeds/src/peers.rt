@@ -2,7 +2,8 @@
 use crate::peer::{Heard, Manner, PATIENCE_SECONDS, serve};
 use crate::row::{FeedCase, NOBODY, list_owed, print_lines, print_output};
 use anyhow::{Result, anyhow};
-use cli::{Order, Source};
+use cli::Order;
+use feed_ends::Source;
 use std::io::Write;
 use std::net::{TcpListener, TcpStream};
 use std::sync::Wait;

@@ -2,7 +2,8 @@
 use crate::feeds::{Fast, FastFeeds, LOG};
 use crate::peer::{Heard, Manner, PATIENCE_SECONDS, serve};
 use anyhow::{Result, anyhow};
-use cli::{Order, ReadFile, Source, run};
+use cli::{Order, ReadFile, run};
+use feed_ends::Source;
 use std::alloc::Global;
 use std::fs;
 use std::io::{self, Write};

@@ -12,16 +12,17 @@ use Rattle.feed_conf.specs.Reading.{HaveLexemes, lines_of}
 use Rattle.feed_conf.specs.Settings.{Outcome, meaning}
 use Rattle.feed_conf.specs.Lexemes.{Lexeme}
 use Rattle.feed_conf.specs.declared.fault.ConfFault.{ConfFault}
+use Rattle.feed_ends.specs.Source.{source_view}
 use Rattle.cli.specs.Check.{advice_line, check_text, more_text}
 use Rattle.cli.specs.Exit.{exit_of}
 use Rattle.cli.specs.Feed.{exit_of_end}
-use Rattle.cli.specs.Feeding.{Feeding, source_view}
+use Rattle.cli.specs.Feeding.{Feeding}
 use Rattle.cli.specs.FeedLines.{end_text}
 use Rattle.cli.specs.Lines.{config_text, refusal_text, no_tape_text, unread_text, input_text, output_text}
 use Rattle.cli.specs.Lines.{mistake_text}
 use Rattle.cli.specs.declared.exit.Exit.{Exit}
 use Rattle.cli.specs.declared.exit.Exit.TheVariants.{Done, Refused, Usage, Unreadable, NoMemory}
-use Rattle.cli.specs.declared.feeds.FeedEnd.{FeedEnd}
+use Rattle.feed_ends.specs.declared.feed_end.FeedEnd.{FeedEnd}
 use Rattle.cli.specs.declared.order.Order.{Order}
 use Rattle.cli.specs.declared.order.Order.TheVariants.{DrillFromInput, Drill, Check, Owed, Feed, Print, Mistake}
 

@@ -1,8 +1,9 @@
 -- What an errand asks of what feeds peers.
 use Rattle.std.specs.Prelude.{ℕ, Bool, List, Option}
 use Rattle.feed_conf.specs.Settings.{Outcome}
-use Rattle.cli.specs.Feeding.{Source, feeding_of, source_view}
-use Rattle.cli.specs.declared.feeds.FeedEnd.{FeedEnd}
+use Rattle.feed_ends.specs.Source.{Source, source_view}
+use Rattle.cli.specs.Feeding.{feeding_of}
+use Rattle.feed_ends.specs.declared.feed_end.FeedEnd.{FeedEnd}
 use Rattle.cli.specs.declared.runner.Errand.{Errand}
 use Rattle.cli.specs.declared.runner.Errand.TheVariants.{List as ListOwed, Feed}
 

@@ -2,9 +2,9 @@
 use Rattle.std.specs.Prelude.{Bool, true, false, List, [], ◌∷◌}
 use Rattle.cli.specs.declared.exit.Exit.{Exit}
 use Rattle.cli.specs.declared.exit.Exit.TheVariants.{Done, Tape, Unreadable, NoMemory}
-use Rattle.cli.specs.declared.feeds.FeedEnd.{FeedEnd}
-use Rattle.cli.specs.declared.feeds.FileError.{FileError}
-use Rattle.cli.specs.declared.feeds.TapeError.{TapeError}
+use Rattle.feed_ends.specs.declared.feed_end.FeedEnd.{FeedEnd}
+use Rattle.feed_ends.specs.declared.feed_end.FileError.{FileError}
+use Rattle.feed_ends.specs.declared.feed_end.TapeError.{TapeError}
 
 -- the status, by the errors of tapes, whether memory, a thread or a system resource for sockets was refused, and the
 -- errors of other files

@@ -2,12 +2,12 @@
 use Rattle.std.specs.Prelude.{ℕ, List, [], ◌∷◌, ◌++◌, codes, decimal, flat_map, string_bytes}
 use Rattle.recovery.specs.Faults.{tape_fault_name}
 use Rattle.recovery.specs.declared.fault.TapeFault.{TapeFault}
-use Rattle.cli.specs.declared.feeds.FeedEnd.{FeedEnd}
-use Rattle.cli.specs.declared.feeds.FileError.{FileError}
-use Rattle.cli.specs.declared.feeds.FileError.TheVariants.{Unread, Unwritten, Unremoved, Output}
-use Rattle.cli.specs.declared.feeds.Owing.{Owing}
-use Rattle.cli.specs.declared.feeds.TapeError.{TapeError}
-use Rattle.cli.specs.declared.feeds.TapeError.TheVariants.{Taken, Failed}
+use Rattle.feed_ends.specs.declared.feed_end.FeedEnd.{FeedEnd}
+use Rattle.feed_ends.specs.declared.feed_end.FileError.{FileError}
+use Rattle.feed_ends.specs.declared.feed_end.FileError.TheVariants.{Unread, Unwritten, Unremoved, Output}
+use Rattle.feed_ends.specs.declared.feed_end.Owing.{Owing}
+use Rattle.feed_ends.specs.declared.feed_end.TapeError.{TapeError}
+use Rattle.feed_ends.specs.declared.feed_end.TapeError.TheVariants.{Taken, Failed}
 
 -- the tape of this name is refused, or failed
 abbrev pub failed_text : List ℕ → TapeFault → List ℕ

@@ -1,23 +1,10 @@
 -- What is known of what feeds peers, over one order.
 use Rattle.std.specs.Prelude.{◌≡◌, ℕ, Bool, true, false, List, Option}
 use Rattle.feed_conf.specs.Settings.{Outcome}
-use Rattle.cli.specs.declared.feeds.FeedEnd.{FeedEnd}
+use Rattle.feed_ends.specs.Source.{Source}
+use Rattle.feed_ends.specs.declared.feed_end.FeedEnd.{FeedEnd}
 use Rattle.cli.specs.declared.order.Order.{Order}
-use Rattle.cli.specs.declared.order.Source.{Source as HeldSource}
-use Rattle.cli.specs.declared.order.Source.TheVariants as held
 use Rattle.cli.specs.declared.order.Order.TheVariants.{DrillFromInput, Drill, Check, Owed, Feed, Print, Mistake}
-
--- where the lines of a feed come from
-pub data Source : Type 0 where
-  -- from nowhere: peers are fed only from their backlogs
-  Backlogs : Source
-  -- from the funnel at this path, with what is added to it or up to its end, and with its acknowledged segments removed
-  -- or kept
-  Funnel : List ℕ → (followed tidied : Bool) → Source
-
-abbrev pub source_view : HeldSource → Source
-source_view held.Backlogs = Backlogs
-source_view (held.Funnel path followed tidied) = Funnel path.now followed tidied
 
 -- What became of it and of standard output in each case: it fed by these settings, from this source, logging or not,
 -- and ended like this; it listed what is owed by these settings, logging or not, and ended like this; it was not

@@ -3,7 +3,7 @@ ghost use Rattle.std.specs.Prelude.{◌≡◌, ◌++◌, ◌∷◌, [], IfOk, On
 ghost use Rattle.cli.specs.FeedLines.{end_text, failed_text, file_text, owing_text};
 ghost use Rattle.cli.specs.FeedLines.{tape_text};
 
-use crate::feeds::{FeedEnd, FileError, Owing, TapeError};
+use feed_ends::{FeedEnd, FileError, Owing, TapeError};
 use recovery::TapeFault;
 use std::alloc::{AllocError, Global};
 

@@ -2,6 +2,7 @@
 ghost use Rattle.std.specs.Prelude.{◌≡◌};
 
 use drill::Ending;
+use feed_ends::FeedEnd;
 
 /// How the program ends, as administrators' scripts see it.
 #[derive(Clone, Copy, Debug, PartialEq, Eq)]
@@ -22,6 +23,23 @@ pub enum Exit {
 
 impl Exit {
     ghost use Rattle.cli.specs.Exit.{status_of};
+    ghost use Rattle.cli.specs.Feed.{exit_of_end};
+
+    /// The status of a feed that ended like this: errors of tapes go first, then refused resources, then errors of
+    /// other files.
+    pub fn of_feed(end: &FeedEnd) -> Self
+        ensures { result ≡ exit_of_end end.now }
+    {
+        if !end.tapes.is_empty() {
+            Exit::Tape
+        } else if end.lacks_resources {
+            Exit::NoMemory
+        } else if !end.files.is_empty() {
+            Exit::Unreadable
+        } else {
+            Exit::Done
+        }
+    }
 
     pub fn status(self) -> u8
         ensures { result ≡ status_of self }

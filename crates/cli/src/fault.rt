@@ -7,9 +7,9 @@ ghost use Rattle.cli.specs.declared.fault.OrderFault.TheVariants.{NoMemory};
 
 use crate::end_lines::{add_tape_line, end_lines};
 use crate::exit::Exit;
-use crate::feeds::FeedEnd;
 use drill::{Refusal, TapeRefusal};
 use feed_conf::ConfFault;
+use feed_ends::FeedEnd;
 use std::alloc::{AllocError, Global};
 use std::io::{self, ErrorKind};
 
@@ -93,7 +93,7 @@ impl<'a> OrderFault<'a> {
             OrderFault::Unread(_) | OrderFault::Input(_) | OrderFault::Output(_) =>
                 Exit::Unreadable,
             OrderFault::Mistake(_) => Exit::Usage,
-            OrderFault::Fed(end) => end.exit(),
+            OrderFault::Fed(end) => Exit::of_feed(end),
         }
     }
 

@@ -2,26 +2,24 @@
 //! fails.
 //!
 //! May touch only the reader of files, what feeds peers, the reader and the two writers that it is given; it stands
-//! on `drill` and `feed_conf`, and on `recovery` for the faults of tapes. What feeds peers is a trait here,
-//! [`Feeds`], so that threads and sockets stay out of it. The program above uses `run`: its clause says which exit
-//! status comes with which text on standard output and which line on standard error (docs/MANUAL.md), and that the
-//! status is not lost if that line cannot be written. The contract of `drill` says what a drill prints; that clause
-//! cites it (`specs/Ends.antt`).
+//! on `drill` and `feed_conf`, on `recovery` for the faults of tapes, and on `feed_ends` for what feeds peers, a trait,
+//! so that threads and sockets stay out of it. The program above uses `run`: its clause says which exit status comes
+//! with which text on standard output and which line on standard error (docs/MANUAL.md), and that the status is not
+//! lost if that line cannot be written. The contract of `drill` says what a drill prints; that clause cites it
+//! (`specs/Ends.antt`).
 #![tactic(auto)]
 
 mod check;
 mod end_lines;
 mod exit;
 mod fault;
-mod feeds;
 mod files;
 mod order;
 mod runner;
 
 pub use exit::Exit;
-pub use feeds::{FeedEnd, Feeds, FileError, Owing, TapeError};
 pub use files::ReadFile;
-pub use order::{Order, Source};
+pub use order::Order;
 pub use runner::{Ended, run};
 
 /// The version of innfeed.

@@ -10,11 +10,11 @@ ghost use Rattle.cli.specs.OrderFault.{Comes, IsLineOf};
 use crate::check::{Checked, check, settings_of};
 use crate::exit::Exit;
 use crate::fault::OrderFault;
-use crate::feeds::{FeedEnd, Feeds};
 use crate::files::ReadFile;
-use crate::order::{Order, Source};
+use crate::order::Order;
 use drill::{Ending, run_script};
 use feed_conf::Conf;
+use feed_ends::{FeedEnd, Feeds, Source};
 use std::alloc::Global;
 use std::io::{self, Read, Write};
 

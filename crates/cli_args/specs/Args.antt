@@ -1,9 +1,9 @@
 -- What the arguments of the command line ask for (docs/MANUAL.md).
 use Rattle.std.specs.Prelude.{◌≡◌, ◌⊎◌, List, ℕ, Bool, true, false, Option, None, Some, IsSome, IsNone, codes}
 use Rattle.std.specs.Prelude.{option_map}
+use Rattle.feed_ends.specs.declared.source.Source.{Source}
+use Rattle.feed_ends.specs.declared.source.Source.TheVariants.{Backlogs, Funnel}
 use Rattle.cli.specs.declared.order.Order.{Order}
-use Rattle.cli.specs.declared.order.Source.{Source}
-use Rattle.cli.specs.declared.order.Source.TheVariants.{Backlogs, Funnel}
 use Rattle.cli.specs.declared.order.Order.TheVariants.{DrillFromInput, Drill, Check, Owed, Feed, Print, Mistake}
 use Rattle.cli_args.specs.declared.args.Given.{Given}
 

@@ -6,7 +6,8 @@ ghost use Rattle.cli_args.specs.Args.{Asks, AsksOf, AsksSource, HasMore, HasSour
 
 use clap::error::ErrorKind;
 use clap::{Arg, ArgAction, ArgMatches, Command, Error};
-use cli::{Order, Source, VERSION};
+use cli::{Order, VERSION};
+use feed_ends::Source;
 use std::alloc::{AllocError, Global};
 
 const USAGE: &str = "innfeed -c FILE [-C] [-x] [-v] [--owed] [--follow] [--tidy] [FUNNEL]

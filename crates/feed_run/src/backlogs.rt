@@ -5,8 +5,8 @@ ghost use Rattle.flusher.specs.Sealed.{IsFlushed};
 
 use crate::run_error::RunError;
 use backlog_files::{BacklogFault, BacklogFiles, Imported};
-use cli::Source;
 use disk_model::{FileDisk, TapeDirectory, TapeFile};
+use feed_ends::Source;
 use flusher::PostPeer;
 use log::{Log, info, warn};
 use std::alloc::{AllocError, Global};

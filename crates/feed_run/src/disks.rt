@@ -1,8 +1,8 @@
 // The files of the tapes.
 use crate::run_error::{INTAKE, RunError};
-use cli::TapeError;
 use disk_model::{DirectoryFault, FileDisk, TapeDirectory, TapeFile};
 use feed_conf::PeerConf;
+use feed_ends::TapeError;
 use recovery::TapeFault;
 use std::alloc::Global;
 use std::fs::File;

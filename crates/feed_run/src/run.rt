@@ -17,9 +17,9 @@ use crate::system::Spools;
 use crate::tapes::{Tapes, open_tapes};
 use crate::targets::{by_name, hosts_of, targets_of};
 use article_store::SpoolDirectory;
-use cli::{FeedEnd, FileError, Owing, Source};
 use disk_model::{Disk, FileDisk, TapeDirectory, TapeFile};
 use feed_conf::{Conf, PeerConf};
+use feed_ends::{FeedEnd, FileError, Owing, Source};
 use feeder::{Feeder, FeederFault, PeerTarget, Spool, UnreadPaths};
 use flusher::{
     Blanks, FeederShare, Flusher, Free, Naming, NoThread, Post, PostFault, PostPeer, Signals,

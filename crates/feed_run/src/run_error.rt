@@ -3,7 +3,7 @@ ghost use Rattle.std.specs.Prelude.{◌≡◌};
 ghost use Rattle.feed_run.specs.declared.run_error.RunError.TheVariants.{OutOfResources};
 
 use backlog_files::BacklogFault;
-use cli::{FeedEnd, FileError, TapeError};
+use feed_ends::{FeedEnd, FileError, TapeError};
 use feeder::FeederFault;
 use flusher::PostFault;
 use funnel::PeerName;

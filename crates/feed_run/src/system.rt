@@ -3,8 +3,8 @@ use crate::run::{RunEnv, feed};
 use crate::targets::by_name;
 use crate::thread_runtime::ThreadRuntime;
 use article_store::Folder;
-use cli::{FeedEnd, Feeds, Source};
 use feed_conf::Conf;
+use feed_ends::{FeedEnd, Feeds, Source};
 use log::Log;
 use owed_list::list_owed;
 use resolver::{LookUp, SystemLookUp};
@@ -42,7 +42,7 @@ impl Spools for HostSpools {
     }
 }
 
-/// Feeds the peers of these settings, which were read from the file at `path`, as [`cli::Feeds`] says. `rt` is the
+/// Feeds the peers of these settings, which were read from the file at `path`, as [`Feeds`] says. `rt` is the
 /// runtime of the threads; articles and sockets are those of `host`.
 pub fn feed_with<
     M: AllocGlobal + Threads + Wait + Clock + Log + Send + Sync + 'static,

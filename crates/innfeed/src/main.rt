@@ -9,8 +9,9 @@
 mod files;
 mod streams;
 
-use cli::{Exit, Feeds, Order, run};
+use cli::{Exit, Order, run};
 use cli_args::read_args;
+use feed_ends::Feeds;
 use feed_run::SystemFeeds;
 use files::SystemFiles;
 use std::env;

@@ -2,7 +2,7 @@
 ghost use Rattle.std.specs.Prelude.{◌≡◌};
 ghost use Rattle.owed_list.specs.declared.fault.ListFault.TheVariants.{NoMemory};
 
-use cli::{FeedEnd, FileError, TapeError};
+use feed_ends::{FeedEnd, FileError, TapeError};
 use recovery::TapeFault;
 use std::alloc::{AllocError, AllocFailed, Global};
 use std::io::{self, ErrorKind};

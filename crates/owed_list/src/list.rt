@@ -2,9 +2,9 @@
 use crate::fault::ListFault;
 use crate::reading::{TapePaths, read_files};
 use crate::snapshot::Snapshot;
-use cli::FeedEnd;
 use disk_model::FileDisk;
 use feed_conf::PeerConf;
+use feed_ends::FeedEnd;
 use ledger_core::Key;
 use log::{Log, info, warn};
 use recovery::{Tape, TapeFault};
