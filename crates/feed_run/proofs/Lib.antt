@@ -1,3 +1,1 @@
-mod Counts
-mod OneEach
 mod TargetLists

@@ -1,4 +1,1 @@
-pub mod Nowhere
-pub mod OpenFiles
-pub mod Ordered
 pub mod Targets

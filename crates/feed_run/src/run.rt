@@ -4,22 +4,12 @@ ghost use Rattle.std.specs.List.{All};
 ghost use Rattle.flusher.specs.Post.{IsFor, names_of};
 ghost use Rattle.flusher.specs.Sealed.{IsFlushed};
 
-use crate::backlogs::{OtherFiles, flush_stations, take_backlogs};
-use crate::countdown::{Countdown, CountedWorker};
-use crate::intake_worker::IntakeWorker;
-use crate::nowhere::Nowhere;
-use crate::open_files::most_connections;
-use crate::progress::Progress;
-use crate::run_error::{RunError, add_all};
-use crate::status_file::StatusFile;
-use crate::stop_file::StopFile;
 use crate::system::Spools;
-use crate::tapes::{Tapes, open_tapes};
 use crate::targets::{by_name, hosts_of, targets_of};
 use article_store::SpoolDirectory;
-use disk_model::{Disk, FileDisk, TapeDirectory, TapeFile};
+use disk_model::{FileDisk, TapeDirectory, TapeFile};
 use feed_conf::{Conf, PeerConf};
-use feed_ends::{FeedEnd, FileError, Owing, Source};
+use feed_ends::{FeedEnd, FileError, Source};
 use feeder::{Feeder, FeederFault, PeerTarget, Spool, UnreadPaths};
 use flusher::{
     Blanks, FeederShare, Flusher, Free, Naming, NoThread, Post, PostFault, PostPeer, Signals,
@@ -27,6 +17,11 @@ use flusher::{
 };
 use funnel::PeerName;
 use funnel_files::Funnel;
+use intake::{
+    Countdown, CountedWorker, IntakeWorker, Nowhere, OtherFiles, Progress, RunError, StatusFile,
+    StopFile, Tapes, add_all, close, flush_stations, most_connections, open_funnel, open_tapes,
+    remove_stop, take_backlogs,
+};
 use log::{Log, info};
 use mio::Waker;
 use recovery::Tape;
@@ -100,7 +95,7 @@ pub(crate) fn feed<
         intake,
     } = open_tapes(env.rt, env.files, &directory, &peers)?;
     // A run that is asked to end while backlog files are imported ends after that.
-    let stop = stop_file(env, source, &directory)?;
+    let stop = StopFile::for_source(env.rt, env.files, source, text_of(&directory))?;
     let others = OtherFiles {
         conf: path,
         status: text_of(&status),
@@ -115,7 +110,7 @@ pub(crate) fn feed<
         &mut stations,
     )
     .inspect_err(|_| log_fault(env.rt, &directory, &tapes))?;
-    let funnel = open_funnel(env, source, intake.mark())?;
+    let funnel = open_funnel(env.rt, env.files, &env.net, source, intake.mark())?;
     let prepared = prepare(env, &peers, &spool, funnel, stop, status)?;
     let stations = flush_stations(env.rt, alloc, stations)?;
     let blanks = Blanks::new(alloc, stations.len())?;
@@ -307,37 +302,6 @@ fn work<
     Ok(())
 }
 
-// The file that asks the run to end, if it follows its funnel.
-fn stop_file<'a, R: Log, F: AllocGlobal + Files<File = File>, H, C, L>(
-    env: &RunEnv<'a, R, F, H, C, L>,
-    source: Source<'_>,
-    directory: &[u8],
-) -> Result<Option<StopFile<'a, F>>, RunError> {
-    match source {
-        Source::Funnel {
-            is_followed: true,
-            ..
-        } => {
-            let stop = StopFile::new(env.rt, env.files, text_of(directory))?;
-            Ok(Some(stop))
-        }
-        Source::Backlogs | Source::Funnel { .. } => Ok(None),
-    }
-}
-
-// Removes the file that may have asked the run to end.
-fn remove_stop<R: Log, F: AllocGlobal + Files<File = File>>(
-    rt: &R,
-    stop: Option<StopFile<'_, F>>,
-    end: &mut FeedEnd,
-) {
-    if let Some(stop) = stop
-        && let Err(error) = stop.remove(rt)
-    {
-        error.add_to(end);
-    }
-}
-
 // The two feeders, which share this resolver. `is_lasting` is whether they leave idle connections.
 fn feeders<N: Naming, R: Log, F: AllocGlobal, S: SpoolDirectory + Drop, H, C: Net + Copy + Drop, L>(
     env: &RunEnv<'_, R, F, H, C, L>,
@@ -394,10 +358,18 @@ fn add_faults(
     }
     add_all(intake, end);
     if let Some(fault) = faults.1 {
-        RunError::feeder(alloc, names, fault).add_to(end);
+        feeder_error(alloc, names, fault).add_to(end);
     }
     if let Some(fault) = faults.2 {
-        RunError::feeder(alloc, names, fault).add_to(end);
+        feeder_error(alloc, names, fault).add_to(end);
+    }
+}
+
+// The fault with which a feeder ended.
+fn feeder_error(alloc: Global, names: &[PeerName], fault: FeederFault) -> RunError {
+    match fault {
+        FeederFault::Post(fault) => RunError::post(alloc, names, fault),
+        FeederFault::NoPeer | FeederFault::System => RunError::OutOfResources,
     }
 }
 
@@ -411,84 +383,5 @@ fn add_unread(first: UnreadPaths, second: UnreadPaths, end: &mut FeedEnd) {
     }
     for path in first {
         RunError::File(FileError::Unread(path)).add_to(end);
-    }
-}
-
-// Flushes what is still pending, writes the status file, and adds what is still owed. `is_reported` is whether it was
-// reported before that the status file cannot be written. After a fault of a tape only the other tapes are flushed, and
-// nothing is acknowledged; what the tape's peer is owed is not known, and not reported.
-fn close<D: Disk, N: Naming, R: Wait + Clock + Log, F: AllocGlobal + Files<File = File>>(
-    rt: &R,
-    post: &Post<D, N>,
-    names: &[PeerName],
-    (status, is_reported): (StatusFile<'_, F>, bool),
-    end: &mut FeedEnd,
-) {
-    let mut status = status;
-    if let Err(fault) = flush(rt, post, end.tapes.is_empty()) {
-        RunError::post(*end.tapes.allocator(), names, fault).add_to(end);
-    }
-    if let Err(error) = status.write(rt, post, names)
-        && !is_reported
-    {
-        error.add_to(end);
-    }
-    for (peer, name) in names.iter().enumerate() {
-        if peer < post.peers() {
-            let reported = post.reported(rt, peer);
-            if !reported.has_failed && add_owing(name, reported.totals.owed, end).is_err() {
-                end.lacks_resources = true;
-            }
-        }
-    }
-}
-
-// Flushes all tapes if none has failed, and otherwise those that have not.
-fn flush<D: Disk, N: Naming, R: Wait>(
-    rt: &R,
-    post: &Post<D, N>,
-    are_well: bool,
-) -> Result<(), PostFault> {
-    if are_well {
-        post.flush_all(rt, &Free)?;
-        return Ok(());
-    }
-    post.flush_working(rt, &Free)
-}
-
-fn add_owing(name: &PeerName, owed: u64, end: &mut FeedEnd) -> Result<(), AllocError> {
-    if owed > 0 {
-        let name = Vec::from_slice(*end.owing.allocator(), name.bytes())?;
-        end.owing.push(Owing { name, owed })?;
-    }
-    Ok(())
-}
-
-// Opens the funnel after the lines that are acknowledged. A funnel with fewer lines than that is another one, and is
-// refused.
-fn open_funnel<'a, R: Log, F: AllocGlobal + Files<File = File>, H, C: Net, L>(
-    env: &RunEnv<'a, R, F, H, C, L>,
-    source: Source<'_>,
-    acknowledged: u64,
-) -> Result<Option<Funnel<'a, F>>, RunError> {
-    let alloc = env.files.alloc();
-    let Source::Funnel {
-        path,
-        is_followed,
-        is_tidied,
-    } = source
-    else {
-        return Ok(None);
-    };
-    match Funnel::open(
-        env.files,
-        &env.net,
-        path,
-        acknowledged,
-        is_followed,
-        is_tidied,
-    ) {
-        Ok(funnel) => Ok(Some(funnel)),
-        Err(fault) => Err(RunError::funnel(env.rt, alloc, path.as_bytes(), fault)),
     }
 }

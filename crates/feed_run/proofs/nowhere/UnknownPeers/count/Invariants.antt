@@ -1,9 +1,0 @@
-use Rattle.std.specs.Prelude.{◌≡◌, ◌++◌, take, drop, map}
-use Rattle.feed_run.specs.Nowhere.{counted}
-use Rattle.feed_run.proofs.nowhere.UnknownPeers.count.Given as goal
-
--- the peers so far are counted
-abbrev pub invariant-loop-peer : goal.invariant-loop-peer
-invariant-loop-peer l =
-    l.peer-items ≡ map (counted l.names)
-    (take l.peer-index l.initial.peer-items) ++ drop l.peer-index l.initial.peer-items

@@ -1,0 +1,4 @@
+mod Counts
+mod OneEach
+mod Stations
+mod TapeErrors

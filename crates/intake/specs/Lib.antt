@@ -1,0 +1,6 @@
+pub mod Errors
+pub mod Nowhere
+pub mod OpenFiles
+pub mod Ordered
+pub mod Sources
+pub mod Tapes

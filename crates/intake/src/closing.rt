@@ -1,0 +1,76 @@
+// The end of a run: what still pends is flushed, the status file is written, and what is owed is added up.
+use crate::run_error::RunError;
+use crate::status_file::StatusFile;
+use crate::stop_file::StopFile;
+use disk_model::Disk;
+use feed_ends::{FeedEnd, Owing};
+use flusher::{Free, Naming, Post, PostFault};
+use funnel::PeerName;
+use log::Log;
+use std::alloc::AllocError;
+use std::fs::File;
+use std::rt::{Clock, Files};
+use std::sync::Wait;
+
+/// Flushes what is still pending, writes the status file, and adds what is still owed. `is_reported` is whether it was
+/// reported before that the status file cannot be written. After a fault of a tape only the other tapes are flushed,
+/// and nothing is acknowledged; what the tape's peer is owed is not known, and not reported.
+pub fn close<D: Disk, N: Naming, R: Wait + Clock + Log, F: AllocGlobal + Files<File = File>>(
+    rt: &R,
+    post: &Post<D, N>,
+    names: &[PeerName],
+    (status, is_reported): (StatusFile<'_, F>, bool),
+    end: &mut FeedEnd,
+) {
+    let mut status = status;
+    if let Err(fault) = flush(rt, post, end.tapes.is_empty()) {
+        RunError::post(*end.tapes.allocator(), names, fault).add_to(end);
+    }
+    if let Err(error) = status.write(rt, post, names)
+        && !is_reported
+    {
+        error.add_to(end);
+    }
+    for (peer, name) in names.iter().enumerate() {
+        if peer < post.peers() {
+            let reported = post.reported(rt, peer);
+            if !reported.has_failed && add_owing(name, reported.totals.owed, end).is_err() {
+                end.lacks_resources = true;
+            }
+        }
+    }
+}
+
+// Flushes all tapes if none has failed, and otherwise those that have not.
+fn flush<D: Disk, N: Naming, R: Wait>(
+    rt: &R,
+    post: &Post<D, N>,
+    are_well: bool,
+) -> Result<(), PostFault> {
+    if are_well {
+        post.flush_all(rt, &Free)?;
+        return Ok(());
+    }
+    post.flush_working(rt, &Free)
+}
+
+fn add_owing(name: &PeerName, owed: u64, end: &mut FeedEnd) -> Result<(), AllocError> {
+    if owed > 0 {
+        let name = Vec::from_slice(*end.owing.allocator(), name.bytes())?;
+        end.owing.push(Owing { name, owed })?;
+    }
+    Ok(())
+}
+
+/// Removes the file that may have asked the run to end. Adds to `end` if it cannot be removed.
+pub fn remove_stop<R: Log, F: AllocGlobal + Files<File = File>>(
+    rt: &R,
+    stop: Option<StopFile<'_, F>>,
+    end: &mut FeedEnd,
+) {
+    if let Some(stop) = stop
+        && let Err(error) = stop.remove(rt)
+    {
+        error.add_to(end);
+    }
+}

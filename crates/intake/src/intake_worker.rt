@@ -1,0 +1,427 @@
+// The intake: the worker that takes the funnel's lines, batch by batch.
+ghost use Rattle.std.specs.Prelude.{◌≡◌, ◌≤◌, IfOk, length, true};
+ghost use Rattle.intake.specs.Ordered.{lasts_of};
+
+use crate::countdown::Countdown;
+use crate::nowhere::Nowhere;
+use crate::ordered::OrderedBatches;
+use crate::progress::Progress;
+use crate::run_error::{RunError, is_lost_tape};
+use crate::status_file::StatusFile;
+use crate::stop_file::StopFile;
+use disk_model::Disk;
+use feed_ends::FeedEnd;
+use flusher::{IntakeShare, Naming, Pace, Post, PostFault, Receipt, Signals, Work};
+use funnel::{FunnelLine, LineFault, PeerName, read_line};
+use funnel_files::{Funnel, Next};
+use log::Log;
+use mio::Waker;
+use peer_queue::StationFault;
+use recovery::TapeFault;
+use std::alloc::{AllocError, Global};
+use std::fs::File;
+use std::io::{self, Write};
+use std::rt::{Clock, Files};
+use std::sync::{Arc, Wait};
+use std::thread;
+use std::time::{Duration, Instant};
+
+const BATCH_MAX_LINES: u64 = 256;
+
+// How many batches may be not acknowledged yet while the next one is taken.
+const AHEAD_MAX_BATCHES: usize = 64;
+
+// The pause before more lines are looked for at the end of a funnel that is followed.
+const PAUSE_MS: u64 = 200;
+
+// The same while batches are not acknowledged, so that these are reported soon.
+const FLUSH_PAUSE_MS: u64 = 20;
+
+// How often lines that go nowhere are logged.
+const NOWHERE_PERIOD_SECONDS: u64 = 60;
+
+// Lines that were taken one after another.
+#[derive(Clone, Copy)]
+struct Batch {
+    count: u64,
+    // The number of the last line.
+    last: u64,
+    // No line comes after this batch.
+    is_last: bool,
+}
+
+/// Takes the funnel's lines, batch by batch, while earlier batches are flushed, and prints `taken N` once a batch is
+/// acknowledged; then waits for the feeders. Meanwhile it writes the status file and logs lines that go nowhere.
+#[derive(Drop)]
+pub struct IntakeWorker<'a, F, W, N: Naming> {
+    pub alloc: Global,
+    pub share: IntakeShare<N>,
+    pub funnel: Option<Funnel<'a, F>>,
+    pub out: &'a mut W,
+    pub wakers: (Arc<Waker>, Arc<Waker>),
+    pub names: &'a [PeerName],
+    pub status: StatusFile<'a, F>,
+    pub progress: Progress,
+    pub nowhere: Nowhere,
+    /// All lines up to this number are acknowledged: by the intake's tape as it was opened, or by a receipt.
+    pub acknowledged: u64,
+    /// When the lines that go nowhere were logged last.
+    pub nowhere_logged: Instant,
+    pub countdown: &'a Countdown,
+    /// The file that asks the run to end, if it follows its funnel.
+    pub stop: Option<StopFile<'a, F>>,
+    /// Whether it was reported that the status file cannot be written, so that it is not reported again.
+    pub has_no_status: bool,
+    /// What went wrong.
+    pub end: FeedEnd,
+}
+
+impl<F: AllocGlobal + Files<File = File>, W: Write, N: Naming> IntakeWorker<'_, F, W, N> {
+    // Takes the lines of the funnel up to its end.
+    fn take_funnel<D: Disk, R: Wait + Clock + Log>(
+        &mut self,
+        rt: &R,
+        post: &Post<D, N>,
+        signals: &Signals,
+        funnel: &mut Funnel<'_, F>,
+    ) -> Result<(), RunError> {
+        let mut ordered = OrderedBatches::new(self.alloc);
+        for _ in rt.forever() {
+            let pause = if ordered.len() > 0 {
+                FLUSH_PAUSE_MS
+            } else {
+                PAUSE_MS
+            };
+            let batch = self.take_batch(rt, post, signals, funnel, pause)?;
+            self.order(signals, &batch, &mut ordered)?;
+            let most = if batch.is_last { 0 } else { AHEAD_MAX_BATCHES };
+            if !self.acknowledge(rt, signals, &mut ordered, most)? {
+                return Ok(());
+            }
+            if let Err(error) = self.tidy(rt, funnel) {
+                self.acknowledge(rt, signals, &mut ordered, 0)?;
+                return Err(error);
+            }
+            if batch.is_last {
+                return Ok(());
+            }
+            self.look_after(rt, post, funnel.path());
+            if self.is_to_end(rt) {
+                self.acknowledge(rt, signals, &mut ordered, 0)?;
+                return self.tidy(rt, funnel);
+            }
+        }
+        unreachable!()
+    }
+
+    // Takes a batch of lines. It is not full if the funnel is silent, at its end or cannot be read on, or if no line
+    // may be taken any more. If it has none, since more may be added, this takes `pause` milliseconds.
+    fn take_batch<D: Disk, R: Wait + Clock + Log>(
+        &mut self,
+        rt: &R,
+        post: &Post<D, N>,
+        signals: &Signals,
+        funnel: &mut Funnel<'_, F>,
+        pause: u64,
+    ) -> Result<Batch, RunError> {
+        let mut batch = Batch {
+            count: 0,
+            last: 0,
+            is_last: false,
+        };
+        for taken in 0..BATCH_MAX_LINES {
+            let line = match self.next_line(rt, signals, funnel) {
+                Next::Line(line) => line,
+                Next::Silence => return Ok(batch),
+                Next::Pause => {
+                    if batch.count == 0 {
+                        thread::sleep(rt, Duration::from_millis(pause));
+                    }
+                    return Ok(batch);
+                }
+                Next::End => return Ok(Batch {
+                    is_last: true,
+                    ..batch
+                }),
+            };
+            let Some(number) = self.take_line(rt, post, signals, &line)? else {
+                return Ok(Batch {
+                    is_last: true,
+                    ..batch
+                });
+            };
+            self.count_line(number, &line)?;
+            batch.count = taken + 1;
+            batch.last = number;
+        }
+        Ok(batch)
+    }
+
+    // What comes next in the funnel: its end also if it cannot be read on, which is reported, or if no line may be
+    // taken any more.
+    fn next_line<R: Clock + Log>(
+        &mut self,
+        rt: &R,
+        signals: &Signals,
+        funnel: &mut Funnel<'_, F>,
+    ) -> Next {
+        if signals.is_stopped() || signals.has_lost_tape() {
+            return Next::End;
+        }
+        match funnel.next(rt) {
+            Ok(next) => next,
+            Err(fault) => {
+                RunError::funnel(rt, self.alloc, funnel.path(), fault).add_to(&mut self.end);
+                Next::End
+            }
+        }
+    }
+
+    // Takes a line and returns its number. If too many notes are pending, takes it after a flush. None if all threads
+    // are stopped or a tape failed; a failure that is found here is signalled to the other threads.
+    fn take_line<D: Disk, R: Wait>(
+        &mut self,
+        rt: &R,
+        post: &Post<D, N>,
+        signals: &Signals,
+        line: &[u8],
+    ) -> Result<Option<u64>, RunError> {
+        for _ in rt.forever() {
+            match post.take_line(rt, line, &mut self.share) {
+                Ok(number) => return Ok(Some(number)),
+                Err(
+                    PostFault::Station {
+                        fault: StationFault::Tape(TapeFault::PendingFull),
+                        ..
+                    },
+                ) => {
+                    let order = signals.order();
+                    if signals.receipt(rt, order).is_none() {
+                        return Ok(None);
+                    }
+                }
+                Err(fault) => {
+                    let is_lost = is_lost_tape(&fault);
+                    let error = RunError::post(self.alloc, self.names, fault);
+                    if !is_lost {
+                        return Err(error);
+                    }
+                    error.add_to(&mut self.end);
+                    signals.lose_tape();
+                    return Ok(None);
+                }
+            }
+        }
+        unreachable!()
+    }
+
+    // Counts a line that was taken and goes nowhere.
+    fn count_line(&mut self, number: u64, line: &[u8]) -> Result<(), AllocError> {
+        match read_line(self.alloc, line) {
+            Ok(FunnelLine { peers, .. }) => {
+                let unknown = self.unknown(peers)?;
+                self.nowhere.add_unknown(&unknown)
+            }
+            Err(LineFault::NoMemory) => Err(AllocError),
+            Err(fault) => {
+                self.nowhere.add_malformed(number, fault);
+                Ok(())
+            }
+        }
+    }
+
+    // Those of these names that no peer has.
+    fn unknown(&self, peers: Vec<PeerName>) -> Result<Vec<PeerName>, AllocError> {
+        let mut unknown = Vec::new(self.alloc);
+        for peer in peers {
+            if !has_name(self.names, &peer) {
+                unknown.push(peer)?;
+            }
+        }
+        Ok(unknown)
+    }
+
+    // Whether the run follows its funnel and is asked to end.
+    fn is_to_end<R: Clock>(&mut self, rt: &R) -> bool {
+        match &mut self.stop {
+            Some(stop) => stop.has_come(rt),
+            None => false,
+        }
+    }
+
+    // Wakes the feeders for what was taken, and orders a flush of it, unless the batch is empty.
+    fn order(
+        &self,
+        signals: &Signals,
+        batch: &Batch,
+        ordered: &mut OrderedBatches,
+    ) -> Result<(), AllocError> {
+        if batch.count == 0 {
+            return Ok(());
+        }
+        self.wake();
+        ordered.push(signals.order(), batch.last)
+    }
+
+    // Prints `taken N` for each batch that is acknowledged, oldest first, and waits until at most `most` are not. False
+    // if all threads are stopped or a tape fails before that.
+    fn acknowledge<R: Wait>(
+        &mut self,
+        rt: &R,
+        signals: &Signals,
+        ordered: &mut OrderedBatches,
+        most: usize,
+    ) -> Result<bool, RunError>
+        ensures within { IfOk result
+            (λ goes_on. goes_on ≡ true → length (lasts_of ordered.new) ≤ most) }
+    {
+        for _ in rt.forever() {
+            let waits = ordered.len() > most;
+            let Some(order) = ordered.oldest_order() else {
+                return Ok(true);
+            };
+            let receipt = if waits {
+                signals.receipt(rt, order)
+            } else {
+                signals.latest_receipt(rt)
+            };
+            let Some(receipt) = receipt else {
+                return Ok(!waits);
+            };
+            match ordered.take_covered(receipt.number()) {
+                Some(last) => {
+                    if let Err(error) = self.print_taken(last, &receipt) {
+                        return Err(RunError::output(self.alloc, &error));
+                    }
+                }
+                // This flush began before the batch's last line was taken.
+                None if waits => ordered.order_again(signals.order()),
+                None => return Ok(true),
+            }
+        }
+        unreachable!()
+    }
+
+    // Prints `taken N`, and flushes the output: the receipt acknowledges all lines up to this one. The `requires` keeps
+    // this from being printed without one.
+    fn print_taken(&mut self, last: u64, receipt: &Receipt) -> io::Result<()>
+        requires { last ≤ receipt.now.number }
+    {
+        let _ = receipt;
+        self.acknowledged = last;
+        self.out.write_all(b"taken ")?;
+        self.out
+            .write_all(itoa::Buffer::new().format(last).as_bytes())?;
+        self.out.write_all(b"\n")?;
+        self.out.flush()
+    }
+
+    // Removes the segments whose lines are all acknowledged, if the funnel is tidied.
+    fn tidy<R: Log>(&self, rt: &R, funnel: &mut Funnel<'_, F>) -> Result<(), RunError> {
+        match funnel.tidy(self.acknowledged) {
+            Ok(()) => Ok(()),
+            Err(fault) => Err(RunError::funnel(rt, self.alloc, funnel.path(), fault)),
+        }
+    }
+
+    fn wake(&self) {
+        // If that fails, they check for themselves within a second.
+        let _ = self.wakers.0.wake();
+        let _ = self.wakers.1.wake();
+    }
+
+    // Does what is due: writes the status file, logs the progress and the lines that go nowhere. `path` is the
+    // funnel's.
+    fn look_after<D: Disk, R: Wait + Clock + Log>(
+        &mut self,
+        rt: &R,
+        post: &Post<D, N>,
+        path: &[u8],
+    ) {
+        self.progress.log(rt, post, self.names);
+        if self.status.wait(rt) == 0
+            && let Err(error) = self.status.write(rt, post, self.names)
+        {
+            self.keep_status_error(error);
+        }
+        if let Ok(passed) = self.nowhere_logged.elapsed(rt)
+            && passed.as_secs() >= NOWHERE_PERIOD_SECONDS
+        {
+            self.nowhere.log_new(rt, path);
+            if let Ok(now) = Instant::now(rt) {
+                self.nowhere_logged = now;
+            }
+        }
+    }
+
+    // The status file could not be written. A run reports this once.
+    fn keep_status_error(&mut self, error: RunError) {
+        if !self.has_no_status {
+            self.has_no_status = true;
+            error.add_to(&mut self.end);
+        }
+    }
+
+    // Takes all lines of the funnel, if there is one, and signals the feeders that no more will come. If memory or
+    // another resource is refused, all threads are stopped.
+    fn take_all<D: Disk, R: Wait + Clock + Log>(
+        &mut self,
+        rt: &R,
+        post: &Post<D, N>,
+        signals: &Signals,
+        funnel: &mut Option<Funnel<'_, F>>,
+    ) {
+        if let Some(funnel) = funnel
+            && let Err(error) = self.take_funnel(rt, post, signals, funnel)
+        {
+            if !matches!(error, RunError::File(_)) {
+                signals.stop();
+            }
+            error.add_to(&mut self.end);
+        }
+        if self.is_to_end(rt) {
+            signals.begin_draining();
+        } else {
+            signals.begin_last_phase();
+        }
+        self.wake();
+    }
+}
+
+// Whether this name is one of these, which are in byte order.
+fn has_name(names: &[PeerName], name: &PeerName) -> bool {
+    names
+        .binary_search_by(|known| known.bytes().cmp(name.bytes()))
+        .is_ok()
+}
+
+impl<D: Disk, F: AllocGlobal + Files<File = File>, W: Write, N: Naming> Work<D, N>
+    for IntakeWorker<'_, F, W, N> {
+    fn run<R: AllocGlobal + Wait + Clock + Log, P: Pace>(
+        &mut self,
+        rt: &R,
+        post: &Post<D, N>,
+        signals: &Signals,
+        _pace: &P,
+    ) {
+        self.end.lacks_resources |= self.progress.begin(rt, post).is_err();
+        let mut funnel = self.funnel.take();
+        self.take_all(rt, post, signals, &mut funnel);
+        let path: &[u8] = match &funnel {
+            Some(funnel) => funnel.path(),
+            None => b"",
+        };
+        for _ in rt.forever() {
+            // Each second it checks what is due.
+            if self.countdown.wait(rt, 1) {
+                self.nowhere.log(rt, path);
+                return;
+            }
+            self.look_after(rt, post, path);
+            if !signals.is_draining() && self.is_to_end(rt) {
+                signals.begin_draining();
+                self.wake();
+            }
+        }
+    }
+}

@@ -1,0 +1,36 @@
+//! All of a run but its feeders: tapes are opened, backlog files and the funnel's lines are taken in, and what a run
+//! has done and owes is reported.
+//!
+//! May touch the backlog directory, the funnel, the status file and the clock, and wait for the locks of a post. The
+//! crate above opens with [`open_tapes`], [`take_backlogs`] and [`open_funnel`], runs an [`IntakeWorker`] beside its
+//! feeders, and ends with [`close`]. It is proved when `taken N` is printed, how lines that go nowhere are counted, how
+//! many connections fit, and what a [`RunError`] adds to how a run ended.
+#![tactic(auto)]
+
+mod backlogs;
+mod closing;
+mod countdown;
+mod disks;
+mod intake_worker;
+mod nowhere;
+mod open_files;
+mod ordered;
+mod progress;
+mod run_error;
+mod source;
+mod status_file;
+mod stop_file;
+mod tapes;
+
+pub use backlogs::{OtherFiles, flush_stations, take_backlogs};
+pub use closing::{close, remove_stop};
+pub use countdown::{Countdown, CountedWorker};
+pub use intake_worker::IntakeWorker;
+pub use nowhere::Nowhere;
+pub use open_files::most_connections;
+pub use progress::Progress;
+pub use run_error::{RunError, add_all};
+pub use source::open_funnel;
+pub use status_file::StatusFile;
+pub use stop_file::StopFile;
+pub use tapes::{Tapes, open_tapes};

@@ -1,0 +1,117 @@
+// The status file.
+ghost use Rattle.std.specs.Prelude.{◌≡◌};
+
+use crate::run_error::RunError;
+use disk_model::Disk;
+use flusher::{Naming, Post};
+use funnel::PeerName;
+use log::Log;
+use status::{PeerStatus, report};
+use std::alloc::{AllocError, Global};
+use std::fs::{self, File, OpenOptions};
+use std::io::{self, ErrorKind, Write};
+use std::rt::{Clock, Files};
+use std::str;
+use std::sync::Wait;
+use std::time::Instant;
+
+const PERIOD_SECONDS: u64 = 600;
+
+/// The status file, which has what each peer was given and is owed.
+#[derive(Drop)]
+pub struct StatusFile<'a, F> {
+    files: &'a F,
+    path: Vec<u8>,
+    written: Instant,
+}
+
+impl<'a, F: AllocGlobal + Files<File = File>> StatusFile<'a, F> {
+    /// The file at this path, which counts as written now.
+    pub fn new(files: &'a F, path: Vec<u8>, now: Instant) -> Self
+        ensures { (result.path ≡ path) × (result.written ≡ now) }
+    {
+        StatusFile {
+            files,
+            path,
+            written: now,
+        }
+    }
+
+    /// For how many seconds it need not be written; 0 if it is due.
+    pub(crate) fn wait<R: Clock>(&self, rt: &R) -> u64 {
+        match self.written.elapsed(rt) {
+            Ok(passed) => PERIOD_SECONDS.saturating_sub(passed.as_secs()),
+            Err(_) => PERIOD_SECONDS,
+        }
+    }
+
+    /// Writes the figures of the peers of these names, into a file beside it, which is renamed to it once it is whole.
+    /// If there is something at its path that is no regular file, as a device or a FIFO, that is written to. A peer
+    /// whose tape has failed has the figures of its last flush that succeeded.
+    ///
+    /// # Errors
+    /// Memory was refused; it cannot be written.
+    pub(crate) fn write<D: Disk, N: Naming, R: Wait + Clock + Log>(
+        &mut self,
+        rt: &R,
+        post: &Post<D, N>,
+        names: &[PeerName],
+    ) -> Result<(), RunError> {
+        let alloc = self.files.alloc();
+        if let Ok(now) = Instant::now(rt) {
+            self.written = now;
+        }
+        let text = text_of(alloc, rt, post, names)?;
+        match self.put(&text) {
+            Ok(()) => Ok(()),
+            Err(error) => Err(RunError::unwritten(rt, alloc, &self.path, &error)),
+        }
+    }
+
+    fn put(&self, text: &[u8]) -> io::Result<()> {
+        let Ok(path) = str::from_utf8(&self.path) else {
+            return Err(io::Error::from(ErrorKind::InvalidInput));
+        };
+        match fs::metadata(self.files, path) {
+            Ok(there) if !there.is_file() => self.write_into(path, text),
+            _ => self.replace(path, text),
+        }
+    }
+
+    fn write_into(&self, path: &str, text: &[u8]) -> io::Result<()> {
+        let mut there = OpenOptions::new().write(true).open(self.files, path)?;
+        there.write_all(text)
+    }
+
+    // Writes a file beside the one at this path, and renames it to that.
+    fn replace(&self, path: &str, text: &[u8]) -> io::Result<()> {
+        let mut beside = String::from_str(self.files.alloc(), path)?;
+        beside.push_str(".new")?;
+        let mut file = File::create(self.files, beside.as_str())?;
+        file.write_all(text)?;
+        file.sync_all()?;
+        fs::rename(self.files, beside.as_str(), path)
+    }
+}
+
+fn text_of<D: Disk, N: Naming, R: Wait>(
+    alloc: Global,
+    rt: &R,
+    post: &Post<D, N>,
+    names: &[PeerName],
+) -> Result<Vec<u8>, AllocError> {
+    let mut peers = Vec::new(alloc);
+    for (peer, name) in names.iter().enumerate() {
+        if peer < post.peers() {
+            peers.push(PeerStatus {
+                name,
+                totals: post.reported(rt, peer).totals,
+            })?;
+        }
+    }
+    let mut text = Vec::new(alloc);
+    match report(&peers, &mut text) {
+        Ok(()) => Ok(text),
+        Err(_) => Err(AllocError),
+    }
+}
