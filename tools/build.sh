@@ -35,7 +35,7 @@ build() {
   stale "$1" || return 0
   local began lines program=$top/crates/$1/out/$1
   began=$(date +%s.%N) lines=$(lines_of "$1")
-  echo "$1: building and proving the program first, which takes up to an hour from nothing" >&2
+  echo "$1: building and proving the program first, which can take two hours from nothing" >&2
   "$top/tools/prove" "$1" || { echo "$1: the program could not be built" >&2; return 70; }
   printf '%s\n' "$lines" >"$program.lines"
   touch -d "@$began" "$program" # what is changed from here on is newer
