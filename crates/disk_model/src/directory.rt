@@ -1,8 +1,9 @@
 // The directory that has tapes as files.
 use crate::file::FileDisk;
+use crate::spare_room::SpareRoom;
 use crate::tape_file::{FileFault, FirstFault, TapeFile};
-use std::alloc::Global;
-use std::fs::{File, OpenOptions, TryLockError};
+use std::alloc::{AllocError, Global};
+use std::fs::{self, File, OpenOptions, TryLockError};
 use std::io::{self, ErrorKind};
 use std::os::fd::AsRawFd;
 use std::rt::Files;
@@ -10,6 +11,9 @@ use thiserror::Error;
 
 // The highest descriptor of a standard stream.
 const LAST_STREAM: i32 = 2;
+
+// The file of the spare room, whose name no tape can have.
+const ROOM: &str = "~room";
 
 /// Why a directory cannot be had.
 #[derive(Debug, Drop, Error)]
@@ -30,6 +34,7 @@ pub struct TapeDirectory {
     path: String,
     file: File,
     first_fault: FirstFault,
+    room: SpareRoom,
 }
 
 impl TapeDirectory {
@@ -54,11 +59,13 @@ impl TapeDirectory {
         let first_fault = FirstFault::new(alloc).map_err(|refused| DirectoryFault::Failed(
             refused.into(),
         ))?;
+        let room = SpareRoom::new(alloc).map_err(|refused| DirectoryFault::Failed(refused.into()))?;
         Ok(TapeDirectory {
             alloc,
             path,
             file,
             first_fault,
+            room,
         })
     }
 
@@ -75,7 +82,20 @@ impl TapeDirectory {
         rt: &R,
         name: &str,
     ) -> io::Result<FileDisk<TapeFile>> {
-        let path = format!(in self.alloc; "{}/{}", self.path, name)?;
+        let file = self.open_file(rt, name)?;
+        file.sync_all()?;
+        let advised = libc::posix_fadvise(file.as_raw_fd(), 0, 0, libc::POSIX_FADV_DONTNEED);
+        if advised != 0 {
+            return Err(io::Error::from_raw_os_error(advised));
+        }
+        let (first_fault, room) = (self.first_fault.share()?, self.room.share()?);
+        let file = TapeFile::among(self.alloc, file, name, first_fault, room)?;
+        Ok(FileDisk::new(file))
+    }
+
+    // Opens the regular file of this name in it, and makes it if it is missing.
+    fn open_file<R: Files<File = File>>(&self, rt: &R, name: &str) -> io::Result<File> {
+        let path = self.path_of(name)?;
         let file = OpenOptions::new()
             .read(true)
             .write(true)
@@ -87,13 +107,42 @@ impl TapeDirectory {
         if !file.metadata()?.is_file() {
             return Err(ErrorKind::InvalidInput.into());
         }
-        file.sync_all()?;
-        let advised = libc::posix_fadvise(file.as_raw_fd(), 0, 0, libc::POSIX_FADV_DONTNEED);
-        if advised != 0 {
-            return Err(io::Error::from_raw_os_error(advised));
+        Ok(file)
+    }
+
+    fn path_of(&self, name: &str) -> Result<String, AllocError> {
+        format!(in self.alloc; "{}/{}", self.path, name)
+    }
+
+    /// Keeps room back for its files: makes `~room` in it, of 4 MiB of octets that are written and synced. From then on
+    /// a write of a file that was opened in it which finds the file system full, or what its owner may use of it, cuts
+    /// `~room` to nothing, and is tried once more.
+    ///
+    /// # Errors
+    /// The system's: nothing is kept back then. `InvalidInput` and `EBADF` as for [`TapeDirectory::open`].
+    pub fn keep_room<R: Files<File = File>>(&self, rt: &R) -> io::Result<()> {
+        let file = self.open_file(rt, ROOM)?;
+        file.set_len(0)?;
+        self.room.keep_in(self.alloc, file)
+    }
+
+    /// The room that is kept back for its files.
+    ///
+    /// # Errors
+    /// `AllocError` if memory was refused, or too many share it.
+    pub fn room(&self) -> Result<SpareRoom, AllocError> {
+        self.room.share()
+    }
+
+    /// Removes `~room`, if it is there.
+    ///
+    /// # Errors
+    /// The system's.
+    pub fn remove_room<R: Files<File = File>>(&self, rt: &R) -> io::Result<()> {
+        match fs::remove_file(rt, self.path_of(ROOM)?.as_str()) {
+            Err(error) if error.kind() == ErrorKind::NotFound => Ok(()),
+            removed => removed,
         }
-        let file = TapeFile::among(self.alloc, file, name, self.first_fault.share()?)?;
-        Ok(FileDisk::new(file))
     }
 
     /// The first fault of the files that were opened in it, if any met one since: for a log.

@@ -21,6 +21,7 @@ mod fuse;
 mod memory;
 mod octets;
 mod raw_file;
+mod spare_room;
 mod tape_file;
 
 pub use choice::Choice;
@@ -31,6 +32,7 @@ pub use flaky::FlakyDisk;
 pub use fuse::FuseDisk;
 pub use memory::MemDisk;
 pub use raw_file::{RawFault, RawFile};
+pub use spare_room::SpareRoom;
 /// Memory was refused.
 pub use std::alloc::AllocError as NoMemory;
 pub use tape_file::{FileFault, TapeFile};

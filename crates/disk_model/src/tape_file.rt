@@ -1,7 +1,8 @@
 // The files of tapes, which keep why the system refused a call.
-ghost use Rattle.std.specs.Prelude.{[]};
+ghost use Rattle.std.specs.Prelude.{[], ◌≤◌, length, IfOk};
 
 use crate::raw_file::{RawFault, RawFile};
+use crate::spare_room::{SpareRoom, is_full};
 use std::alloc::{AllocError, Global};
 use std::fs::File;
 use std::io::{self, ErrorKind};
@@ -58,13 +59,15 @@ impl FirstFault {
     }
 }
 
-/// A file of a tape, as the system has it: each method is one system call. The first fault of all files of its
+/// A file of a tape, as the system has it: each method is one system call, except that a write which finds the file
+/// system full gives up the spare room of its directory, and is tried once more. The first fault of all files of its
 /// directory is kept, for a log.
 #[derive(Drop)]
 pub struct TapeFile {
     file: File,
     name: String,
     first_fault: FirstFault,
+    room: SpareRoom,
 }
 
 impl TapeFile {
@@ -73,21 +76,37 @@ impl TapeFile {
     /// # Errors
     /// `AllocError` if memory was refused.
     pub fn new(alloc: Global, file: File, name: &str) -> Result<Self, AllocError> {
-        TapeFile::among(alloc, file, name, FirstFault::new(alloc)?)
+        let (first_fault, room) = (FirstFault::new(alloc)?, SpareRoom::new(alloc)?);
+        TapeFile::among(alloc, file, name, first_fault, room)
     }
 
-    // An open file of this name, one of those that share the first fault.
+    // An open file of this name, one of those that share the first fault and the room.
     pub(crate) fn among(
         alloc: Global,
         file: File,
         name: &str,
         first_fault: FirstFault,
+        room: SpareRoom,
     ) -> Result<Self, AllocError> {
         Ok(TapeFile {
             file,
             name: String::from_str(alloc, name)?,
             first_fault,
+            room,
         })
+    }
+
+    // Writes some of these octets at this offset. If the file system is full, gives up the room, and tries once more.
+    fn write_some(&self, octets: &[u8], at: u64) -> io::Result<usize>
+        ensures { IfOk result (λ count. count ≤ length octets.now) }
+    {
+        match self.file.write_at(octets, at) {
+            Err(error) if is_full(&error) => {
+                self.room.give_up();
+                self.file.write_at(octets, at)
+            }
+            written => written,
+        }
     }
 
     // Why a call was refused. Anything but an interruption is kept, if it is the first fault.
@@ -123,7 +142,7 @@ impl RawFile for TapeFile {
     }
 
     fn pwrite(&mut self, at: u64, from: &[u8], done: usize) -> Result<usize, RawFault> {
-        match self.file.write_at(&from[done..], at + done as u64) {
+        match self.write_some(&from[done..], at + done as u64) {
             Ok(count) => Ok(count),
             Err(error) => Err(self.refused(error)),
         }
