@@ -1,20 +1,29 @@
 -- Rising lists of numbers: how a number parts one, and one more number in its place.
-use Rattle.std.proofs.Common.{arith, ◌≡◌, ◌⊎◌, ℕ, zero, suc, ◌+◌, ◌-◌, ◌<◌, ◌≤◌, ◌^◌, min, Option, Ok, Err, true}
-use Rattle.std.proofs.Common.{false, leb, leb-true, leb-false}
-use Rattle.std.proofs.Common.{List, [], ◌∷◌, length, get_or, refl, sym, ap, subst, ◌∙◌, inl, inr, ⊎_elim}
-use Rattle.std.specs.Prelude.{Contains, IfNone, IfSome, slice_get}
+use Rattle.std.proofs.Common.{arith, ◌≡◌, ◌⊎◌, ℕ, zero, suc, ◌+◌, ◌-◌, ◌<◌, ◌≤◌, ◌^◌, min}
+use Rattle.std.proofs.Common.{None, Option, Ok, Err, Some, true}
+use Rattle.std.proofs.Common.{eqb, false, leb, leb-true, leb-false, rules}
+use Rattle.std.proofs.Common.{List, [], ◌∷◌, ◌++◌, length, get_or, refl, sym, ap, subst, ◌∙◌, inl, inr, ⊎_elim}
+use Rattle.std.specs.Prelude.{◌↔◌, Bool, Contains, IfNone, IfSome, IsTrue, Result, All, filter, is_ok, not, slice_get}
 use Rattle.std.specs.List.{insert}
 use Rattle.std.specs.List.Sorted.{IsStrictlyIncreasing, IsNonDecreasingBy, IsPartitionPoint, IsBinarySearchResult}
+use Rattle.std.specs.List.Sorted.{IsPermutation, IsSorted}
+use Rattle.std.specs.List.{dedup}
+use Rattle.std.proofs.lemmas.List.Kept.{Contains-dedup_nat, Contains-from_dedup}
+use Rattle.std.proofs.lemmas.Map.Keys.{IsStrictlyIncreasing-dedup}
 use Rattle.std.specs.Ordering.{nat_cmp}
 use Rattle.std.proofs.lemmas.List.{get_or_default}
-use Rattle.std.proofs.lemmas.List.Elements.{All-contains, All-get_or, All-cons, Contains-get_or}
+use Rattle.std.proofs.lemmas.List.Elements.{All-contains, All-contains_itself, All-cons, All-filter, All-get_or}
+use Rattle.std.proofs.lemmas.List.Elements.{Contains-get_or}
+use Rattle.std.proofs.lemmas.List.Elements.{filter_passes}
 use Rattle.std.proofs.lemmas.List.Elements.{Contains-append_cases, Contains-append_left, Contains-append_right}
-use Rattle.std.proofs.lemmas.List.Kept.{AllPairs-from_increasing}
-use Rattle.std.proofs.lemmas.List.Sorted.{IsNonDecreasingBy-from_default, IsPermutation-insert, IsPermutation-sym}
+use Rattle.std.proofs.lemmas.List.Kept.{AllPairs-from_increasing, IsStrictlyIncreasing-filter}
+use Rattle.std.proofs.lemmas.List.Sorted.{IsNonDecreasingBy-from_default, IsPermutation-filter_both}
+use Rattle.std.proofs.lemmas.List.Sorted.{IsPermutation-insert}
+use Rattle.std.proofs.lemmas.List.Sorted.{IsPermutation-sym}
 use Rattle.std.proofs.lemmas.List.Sorted.{Contains-permutation, All-permutation, searched}
 use Rattle.std.proofs.lemmas.List.Edits.{length-insert, get_or-insert_below, get_or-insert_at, get_or-insert_above}
 use Rattle.std.proofs.lemmas.Option.{get_or_from_slice_get, slice_get_cases}
-use Rattle.segments.specs.Firsts.{AreFirsts, IsNext, IsPlaceOf, JoinsOne}
+use Rattle.segments.specs.Firsts.{AreFirsts, AreLines, IsBefore, IsNext, IsPlaceOf, IsUnknown, JoinsOne}
 
 -- of two places the later has the greater number
 pub rises : (xs : List ℕ) → IsStrictlyIncreasing xs → (i j : ℕ) → i < j → j < length xs → get_or xs i 0 < get_or xs j 0
@@ -210,6 +219,14 @@ joins xs i x other =
           (λ old. Contains-append_right (x ∷ []) xs other old) h),
     )
 
+not_in_slot : (xs : List ℕ) (i x : ℕ) → Slot xs i x → Contains xs x → ⊥
+not_in_slot xs i x slot is =
+    let (k, l, e) = at xs x is in
+    elim (on_side i k) [
+      | inl below ↦ let less = slot.below k below in omega (arith, less, e)
+      | inr from ↦ let more = slot.above k from l in omega (arith, more, e)
+    ]
+
 -- what a search for a number answers
 pub is_slot : (xs ys zs : List ℕ) (i x : ℕ) → IsStrictlyIncreasing ys → xs ≡ ys → ys ≡ zs
     → IsBinarySearchResult (λ y. nat_cmp y x) xs (Err i) → Slot zs i x
@@ -224,3 +241,95 @@ is_there xs ys zs i x up e f found =
     let rising = subst (λ us. IsStrictlyIncreasing us) (sym e) up in
     let is = searched xs x (Ok i) found (λ j k h l. never_falls xs rising j k 0 h l) in
     subst (λ us. Contains us x) (e ∙ f) (i, is.0, get_or_default xs i x 0 is.0 ∙ is.1)
+
+-- ---- a search for a number
+
+pub found_or_not : (xs ys zs : List ℕ) (r : Result ℕ ℕ) (x : ℕ) → IsStrictlyIncreasing ys → xs ≡ ys → ys ≡ zs
+    → IsBinarySearchResult (λ y. nat_cmp y x) xs r → (b : Bool) → b ≡ is_ok r → IsTrue b ↔ Contains zs x
+found_or_not xs ys zs (Ok i) x up e f found b is =
+    (λ h. is_there xs ys zs i x up e f found, λ h. search rules)
+found_or_not xs ys zs (Err i) x up e f found b is =
+    let slot = is_slot xs ys zs i x up e f found in (
+      λ h. absurd (search rules),
+      λ there. absurd (not_in_slot zs i x slot there),
+    )
+
+-- ---- those from one on
+
+-- each of a list, if all that it contains are so
+pub All-from_contains : (P : ℕ → Type 0) (xs : List ℕ) → ((x : ℕ) → Contains xs x → P x) → All P xs
+All-from_contains P xs each k d h = each (get_or xs k d) (Contains-get_or xs k d h)
+
+pub from_filter : (first : ℕ) (xs : List ℕ) (x : ℕ) → Contains (filter (λ y. leb first y) xs) x
+    → Contains xs x × (first ≤ x)
+from_filter first xs x h =
+    let p : ℕ → Bool = λ y. leb first y in
+    let there = All-contains (Contains xs) (filter p xs) x (All-filter p (Contains xs) xs (All-contains_itself xs)) h in
+    let passes = All-contains (λ y. p y ≡ true) (filter p xs) x (filter_passes p xs) h in
+    (there, leb-true _ _ passes)
+
+pub to_filter : (first : ℕ) (xs : List ℕ) (x : ℕ) → Contains xs x → first ≤ x
+    → Contains (filter (λ y. leb first y) xs) x
+to_filter first xs x h le =
+    let p : ℕ → Bool = λ y. leb first y in
+    let q : ℕ → Bool = λ y. not (leb first y) in
+    let split = IsPermutation-filter_both p q (λ y. refl) xs in
+    ⊎_elim
+    (λ stays. stays)
+    (λ gone. absurd (no_more first x le (All-contains (λ y. q y ≡ true) (filter q xs) x (filter_passes q xs) gone)))
+    (Contains-append_cases (filter p xs) (filter q xs) x
+    (Contains-permutation xs (filter p xs ++ filter q xs) x split h))
+  where
+    no_more : (m n : ℕ) → m ≤ n → not (leb m n) ≡ true → ⊥
+    no_more m n h e = grind arith
+
+pub filter_firsts : (first : ℕ) (xs : List ℕ) → AreFirsts xs → AreFirsts (filter (λ y. leb first y) xs)
+filter_firsts first xs are = record {
+  rising = IsStrictlyIncreasing-filter (λ y. leb first y) xs are.rising;
+  within = All-filter (λ y. leb first y) (λ x. (1 ≤ x) × (x < 2 ^ 64)) xs are.within;
+}
+
+-- ---- numbers in any order, sorted, and each once
+
+pub sorted_keeps : (xs ys zs : List ℕ) → IsPermutation xs ys → zs ≡ dedup eqb ys → (x : ℕ) → Contains xs x
+    → Contains zs x
+sorted_keeps xs ys zs moved e x is =
+    subst (λ us. Contains us x) (sym e) (Contains-dedup_nat ys x (Contains-permutation xs ys x moved is))
+
+pub sorted_adds_none : (xs ys zs : List ℕ) → IsPermutation xs ys → zs ≡ dedup eqb ys → (x : ℕ) → Contains zs x
+    → Contains xs x
+sorted_adds_none xs ys zs moved e x is =
+    let kept = Contains-from_dedup eqb ys x (subst (λ us. Contains us x) e is) in
+    Contains-permutation ys xs x (IsPermutation-sym xs ys moved) kept
+
+pub sorted_firsts : (xs ys zs : List ℕ) → IsPermutation xs ys → zs ≡ dedup eqb ys → IsSorted nat_cmp ys
+    → AreLines xs → AreFirsts zs
+sorted_firsts xs ys zs moved e sorted are = record {
+  rising = subst IsStrictlyIncreasing (sym e) (IsStrictlyIncreasing-dedup ys sorted);
+  within = All-from_contains (λ x. (1 ≤ x) × (x < 2 ^ 64)) zs
+      (λ x is. All-contains (λ x. (1 ≤ x) × (x < 2 ^ 64)) xs x are (sorted_adds_none xs ys zs moved e x is));
+}
+
+-- ---- the first that is not known
+
+pub is_unknown : (firsts seen known lower : List ℕ) (above below : ℕ) (r : Option ℕ) → seen ≡ known
+    → ((x : ℕ) → Contains lower x ↔ IsBefore firsts below x)
+    → IfSome r (λ x. Contains lower x × (above < x) × (Contains seen x → ⊥))
+    → IfSome r (IsUnknown firsts known above below)
+is_unknown firsts seen known lower above below None e which is = tt
+is_unknown firsts seen known lower above below (Some x) e which is =
+    let there = (which x).0 is.0 in
+    record {
+      there = there.0;
+      over = is.1;
+      under = there.1;
+      new = λ known_one. is.2 (subst (λ us. Contains us x) (sym e) known_one);
+    }
+
+pub none_unknown : (firsts seen known lower : List ℕ) (above below : ℕ) (r : Option ℕ) → seen ≡ known
+    → ((x : ℕ) → Contains lower x ↔ IsBefore firsts below x)
+    → IfNone r ((x : ℕ) → Contains lower x → above < x → Contains seen x)
+    → IfNone r ((x : ℕ) → IsUnknown firsts known above below x → ⊥)
+none_unknown firsts seen known lower above below None e which all = λ x is.
+    is.new (subst (λ us. Contains us x) e (all x ((which x).1 (is.there, is.under)) is.over))
+none_unknown firsts seen known lower above below (Some x) e which all = tt

@@ -3,10 +3,14 @@ use Rattle.std.specs.Prelude.{◌≡◌, ◌↔◌, ◌⊎◌, ℕ, ◌+◌, ◌
 use Rattle.std.specs.List.Sorted.{IsStrictlyIncreasing}
 use Rattle.segments.specs.declared.place.SegmentPlace.{SegmentPlace}
 
--- they rise, and each is from 1 to the greatest number of 64 bits
+-- each is the number of a line: from 1 to the greatest of 64 bits
+abbrev pub AreLines : List ℕ → Type 0
+AreLines firsts = All (λ first. (1 ≤ first) × (first < 2 ^ 64)) firsts
+
+-- they rise, and each is the number of a line
 pub record AreFirsts (firsts : List ℕ) : Type 0 where
   pub rising : IsStrictlyIncreasing firsts
-  pub within : All (λ first. (1 ≤ first) × (first < 2 ^ 64)) firsts
+  pub within : AreLines firsts
 
 -- new has this one and those of old
 abbrev pub JoinsOne : List ℕ → ℕ → List ℕ → Type 0
@@ -27,3 +31,10 @@ pub record IsNext (firsts : List ℕ) (first next : ℕ) : Type 0 where
 -- one that begins below this line
 abbrev pub IsBefore : List ℕ → ℕ → ℕ → Type 0
 IsBefore firsts first other = Contains firsts other × (other < first)
+
+-- one that begins between two lines, and is none of those that are known
+pub record IsUnknown (firsts known : List ℕ) (above below first : ℕ) : Type 0 where
+  pub there : Contains firsts first
+  pub over : above < first
+  pub under : first < below
+  pub new : Contains known first → ⊥

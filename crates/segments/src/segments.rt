@@ -2,8 +2,9 @@
 ghost use Rattle.std.specs.Prelude.{◌≡◌, ◌≢◌, ◌↔◌, ◌<◌, ◌≤◌, ◌+◌, ℕ, []};
 ghost use Rattle.std.specs.Prelude.{Contains, Err, IfNone, IfSome, IsTrue, Ok, length};
 ghost use Rattle.std.specs.Prelude.{OnErr, OnOk, false, slice_index, true};
+ghost use Rattle.std.specs.List.Sorted.{IsStrictlyIncreasing};
 ghost use Rattle.segments.specs.Names.{HasFault, IsFirstOf, IsNumber};
-ghost use Rattle.segments.specs.Firsts.{AreFirsts, IsBefore, IsNext, IsPlaceOf, JoinsOne};
+ghost use Rattle.segments.specs.Firsts.{AreFirsts, IsBefore, IsNext, IsPlaceOf, IsUnknown, JoinsOne};
 ghost use Rattle.segments.specs.declared.name.NameFault.{NameFault};
 
 use crate::name::{NameFault, read_name};
@@ -54,7 +55,16 @@ impl Segments {
         }
     }
 
-    /// Takes in a name of the directory; `false` if it is not a segment's. A name that comes twice counts once.
+    // Those of these numbers, which rise.
+    pub(crate) fn of_rising(firsts: Vec<u64>) -> Self
+        requires { AreFirsts firsts.items }
+        ensures { result ≡ firsts.items }
+    {
+        Segments { firsts }
+    }
+
+    /// Takes in a name of the directory; `false` if it is not a segment's. A name that comes twice counts once. This
+    /// moves those that begin above it: a [`Listing`](crate::Listing) takes many names.
     ///
     /// # Errors
     /// `Name` if the name is 20 digits but not a segment's; `NoMemory` if it is a segment's and memory was refused.
@@ -93,6 +103,12 @@ impl Segments {
         }
     }
 
+    pub fn len(&self) -> usize
+        ensures { result ≡ length self.now }
+    {
+        self.firsts.len()
+    }
+
     pub fn is_empty(&self) -> bool
         ensures { IsTrue result ↔ (self.now ≡ []) }
     {
@@ -123,6 +139,7 @@ impl Segments {
         ensures some { IfSome result (IsNext self.now first) }
         ensures none { IfNone result
             ((other : ℕ) → Contains self.now other → other ≤ first) }
+        ensures firsts { AreFirsts self.now }
     {
         self.firsts.get(self.count_up_to(first)).copied()
     }
@@ -135,6 +152,23 @@ impl Segments {
         &self.firsts[..self.count_up_to(first.saturating_sub(1))]
     }
 
+    /// Takes out those that begin below this line.
+    pub fn remove_before(&mut self, first: u64)
+        ensures { (other : ℕ) → Contains self.new other
+            ↔ (Contains self.old other × (first ≤ other)) }
+    {
+        self.firsts.retain(|other| *other >= first);
+    }
+
+    /// The first one that begins after the line `above` and before the line `below`, and is not one of `known`.
+    pub fn first_unknown(&self, known: &Segments, above: u64, below: u64) -> Option<u64>
+        ensures some { IfSome result (IsUnknown self.now known.now above below) }
+        ensures none { IfNone result
+            ((first : ℕ) → IsUnknown self.now known.now above below first → ⊥) }
+    {
+        first_unknown_of(self.before(below), &known.firsts, above)
+    }
+
     // How many begin at or below this number: they come first.
     fn count_up_to(&self, number: u64) -> usize
         ensures within { result ≤ length self.now }
@@ -145,4 +179,27 @@ impl Segments {
     {
         self.firsts.partition_point(|first| *first <= number)
     }
+}
+
+// The first of these that is above this number, and is not one of `known`.
+fn first_unknown_of(firsts: &[u64], known: &[u64], above: u64) -> Option<u64>
+    requires { IsStrictlyIncreasing known.now }
+    ensures some { IfSome result (λ first. Contains firsts.now first × (above < first)
+        × (Contains known.now first → ⊥)) }
+    ensures none { IfNone result ((first : ℕ) → Contains firsts.now first → above < first
+        → Contains known.now first) }
+{
+    for first in firsts {
+        if *first > above && !has(known, *first) {
+            return Some(*first);
+        }
+    }
+    None
+}
+
+fn has(firsts: &[u64], first: u64) -> bool
+    requires { IsStrictlyIncreasing firsts.now }
+    ensures { IsTrue result ↔ Contains firsts.now first }
+{
+    firsts.binary_search(&first).is_ok()
 }
