@@ -1,0 +1,5 @@
+pub mod Each
+pub mod Files
+pub mod Joined
+pub mod Readings
+pub mod Searches
