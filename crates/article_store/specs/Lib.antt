@@ -1,3 +1,4 @@
+pub mod Causes
 pub mod Finds
 pub mod Paths
 pub mod Reads

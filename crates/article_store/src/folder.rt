@@ -1,14 +1,15 @@
 // A store of articles that are files below a directory.
 ghost use Rattle.std.specs.Prelude.{ℕ, ◌≡◌, ◌≢◌, ◌∷◌, [], ◌++◌, ◌+◌, ◌≤◌, ◌<◌};
-ghost use Rattle.std.specs.Prelude.{length, take, drop, string_bytes, IfOk, IfSome, OnOk, OnErr};
+ghost use Rattle.std.specs.Prelude.{length, take, drop, string_bytes, IfOk, IfSome, OnOk, OnErr, Ok, Some};
 ghost use Rattle.std.specs.Io.KnownBytes.{Consumes, IsAtEnd, Keeps};
+ghost use Rattle.article_store.specs.Causes.{cause_of};
 ghost use Rattle.article_store.specs.Finds.{IsFound};
 ghost use Rattle.article_store.specs.Paths.{root_of};
 ghost use Rattle.article_store.specs.Reads.{ConsumesAtMost, IsReadAs, answer_to};
 
 use crate::store::{Articles, Found, SpoolDirectory, StoreFault};
+use crate::unsendable::{Unsendable, unsendable_cause};
 use bytes::Bytes;
-use dot_codec::is_sendable;
 use funnel::Token;
 use std::alloc::{AllocError, Global};
 use std::fs::{self, File};
@@ -34,6 +35,8 @@ pub struct Folder<F: Files + Drop> {
     buffer: Vec<u8>,
     // The error of the last fetch that failed.
     reason: Option<io::Error>,
+    // The cause of the last fetch that found a text that can't be sent.
+    cause: Option<Unsendable>,
 }
 
 impl<F: Files + Drop> Folder<F> {
@@ -53,6 +56,7 @@ impl<F: Files + Drop> Folder<F> {
             path: String::new(alloc),
             buffer: Vec::new(alloc),
             reason: None,
+            cause: None,
         })
     }
 
@@ -81,7 +85,9 @@ impl<F: Files + Drop> Articles for Folder<F> {
         let path = build_path(&mut self.path, &self.root, token)?;
         let read = match fs::metadata(&self.files, path) {
             Ok(there) if there.is_file() => match File::open(&self.files, path) {
-                Ok(mut file) => read_article(self.alloc, &mut file, &mut self.buffer),
+                Ok(mut file) => {
+                    read_judged(self.alloc, &mut file, &mut self.buffer, &mut self.cause)
+                }
                 Err(error) => Err(error),
             },
             Ok(there) if there.is_dir() => return Ok(Found::Gone),
@@ -107,6 +113,10 @@ impl<F: Files + Drop> SpoolDirectory for Folder<F> {
     fn take_reason(&mut self) -> Option<io::Error> {
         self.reason.take()
     }
+
+    fn take_cause(&mut self) -> Option<Unsendable> {
+        self.cause.take()
+    }
 }
 
 /// Reads an article from a reader: the whole text up to the reader's end, whatever its length is said to be, so that
@@ -126,8 +136,23 @@ pub fn read_article<R: Read>(
     ensures whole { IfSome (R.remaining reader.old) (λ text. IfOk result (IsReadAs text)) }
     ensures limit { ConsumesAtMost 16777217 (R.remaining reader.old) (R.remaining reader.new) }
 {
+    read_judged(alloc, reader, buffer, &mut None)
+}
+
+// The same, and has the cause if it is `Unsendable`.
+fn read_judged<R: Read>(
+    alloc: Global,
+    reader: &mut R,
+    buffer: &mut Vec<u8>,
+    cause: &mut Option<Unsendable>,
+) -> io::Result<Found>
+    ensures sendable { IfOk result IsFound }
+    ensures there { result ≢ Ok Found.Gone }
+    ensures whole { IfSome (R.remaining reader.old) (λ text. IfOk result (IsReadAs text)) }
+    ensures limit { ConsumesAtMost 16777217 (R.remaining reader.old) (R.remaining reader.new) }
+{
     let count = read_prefix(reader, buffer)?;
-    Ok(judge(alloc, &buffer[..count])?)
+    Ok(judge(alloc, &buffer[..count], cause)?)
 }
 
 // A token is ASCII, so its octets are text.
@@ -220,15 +245,18 @@ fn make_room(buffer: &mut Vec<u8>) -> Result<(), AllocError>
     buffer.resize(room, 0)
 }
 
-fn judge(alloc: Global, text: &[u8]) -> Result<Found, AllocError>
+// The text as an article if it can be sent; else `Unsendable`, with the cause.
+fn judge(alloc: Global, text: &[u8], cause: &mut Option<Unsendable>) -> Result<Found, AllocError>
     ensures sendable { IfOk result IsFound }
     ensures said { IfOk result (IsReadAs text.now) }
+    ensures cause { result ≡ Ok Found.Unsendable → cause.new ≡ Some (cause_of text.now) }
 {
-    if is_sendable(text) {
-        Ok(Found::Article(Bytes::copy_from_slice(alloc, text)?))
-    } else {
-        Ok(Found::Unsendable)
+    let found = unsendable_cause(text);
+    if found.is_none() {
+        return Ok(Found::Article(Bytes::copy_from_slice(alloc, text)?));
     }
+    *cause = found;
+    Ok(Found::Unsendable)
 }
 
 // The result if a file could not be looked at, opened or read.

@@ -2,7 +2,8 @@
 //! below a directory.
 //!
 //! May touch memory, and `Folder` the files of its directory, which it only reads; it stands on `funnel` for tokens,
-//! on `dot_codec` for which texts have a written form, and on `bytes`, by which a text is shared and not copied.
+//! on `dot_codec` for which texts have a written form, on `memchr` for the search for octets that no text may have, and
+//! on `bytes`, by which a text is shared and not copied.
 //! The crates above use the trait `Articles`: its `fetch` hands out only texts that have a written form, and by its
 //! member `says` a store says which text is under a token (`specs/Finds.antt`).
 #![tactic(auto)]
@@ -10,8 +11,10 @@
 mod folder;
 mod mem;
 mod store;
+mod unsendable;
 
 pub use folder::{Folder, read_article};
 pub use mem::MemArticles;
 pub use std::alloc::AllocError as NoMemory;
 pub use store::{Articles, Found, SpoolDirectory, StoreFault};
+pub use unsendable::{Unsendable, unsendable_cause};

@@ -2,6 +2,7 @@
 ghost use Rattle.std.specs.Prelude.{◌↔◌, ℕ, List, Option, IfOk};
 ghost use Rattle.article_store.specs.Finds.{IsFound, IsSaidBy};
 
+use crate::unsendable::Unsendable;
 use bytes::Bytes;
 use funnel::Token;
 use std::alloc::AllocError;
@@ -66,4 +67,7 @@ pub trait SpoolDirectory: Articles {
 
     /// The error of the last fetch that returned `Disk`, for a log; each error is returned once.
     fn take_reason(&mut self) -> Option<io::Error>;
+
+    /// The cause of the last fetch that returned `Unsendable`, for a message; each cause is returned once.
+    fn take_cause(&mut self) -> Option<Unsendable>;
 }

@@ -83,6 +83,44 @@ impl<'a, F: AllocGlobal + Files<File = File>> BacklogFiles<'a, F> {
         }
     }
 
+    /// Takes in the file of lines that were kept for this peer while its tape could not be opened, `NAME~kept`: renames
+    /// it to the name of the peer, makes that durable, and takes that file in. `None` if there is none, or if there is
+    /// a file with the name of the peer: the next start takes it in after that.
+    ///
+    /// # Errors
+    /// As for [`BacklogFiles::take_in`]; `Unread` also if it cannot be renamed.
+    pub fn take_kept<D: Disk>(
+        &self,
+        peer: &mut PostPeer<D>,
+    ) -> Result<Option<Imported>, BacklogFault> {
+        let path = self.path_of(&peer.name)?;
+        let mut kept = String::from_str(self.files.alloc(), path.as_str())?;
+        kept.push_str("~kept")?;
+        match self.rename_kept(&kept, &path) {
+            Ok(true) => self.take_in(peer),
+            Ok(false) => Ok(None),
+            Err(reason) => Err(BacklogFault::Unread { path: kept, reason }),
+        }
+    }
+
+    // Renames the file of kept lines, if it is there and no file is at the other path. Returns whether it did.
+    fn rename_kept(&self, kept: &str, path: &str) -> io::Result<bool> {
+        let found = match fs::symlink_metadata(self.files, kept) {
+            Ok(found) => found,
+            Err(error) if error.kind() == ErrorKind::NotFound => return Ok(false),
+            Err(error) => return Err(error),
+        };
+        match fs::symlink_metadata(self.files, path) {
+            Err(error) if error.kind() == ErrorKind::NotFound => {}
+            Err(error) => return Err(error),
+            Ok(_) => return Ok(false),
+        }
+        self.check(&found)?;
+        fs::rename(self.files, kept, path)?;
+        self.tapes.sync()?;
+        Ok(true)
+    }
+
     fn take_found<D: Disk>(
         &self,
         peer: &mut PostPeer<D>,
@@ -113,18 +151,24 @@ impl<'a, F: AllocGlobal + Files<File = File>> BacklogFiles<'a, F> {
     // FIFO might never return. Its content is made durable: otherwise, after a power cut in the middle of the import,
     // other lines might come under numbers that are noted.
     fn open(&self, path: &str, found: &Metadata) -> io::Result<File> {
-        if !found.is_file() {
-            return Err(no_backlog("it is not a regular file"));
-        }
-        if self.others.contains(&FileId::of(found)) {
-            return Err(no_backlog("it is the funnel, the configuration or the status file"));
-        }
+        self.check(found)?;
         let file = File::open(self.files, path)?;
         if FileId::of(&file.metadata()?) != FileId::of(found) {
             return Err(no_backlog("it was replaced"));
         }
         file.sync_all()?;
         Ok(file)
+    }
+
+    // Refuses what must not be taken in.
+    fn check(&self, found: &Metadata) -> io::Result<()> {
+        if !found.is_file() {
+            return Err(no_backlog("it is not a regular file"));
+        }
+        if self.others.contains(&FileId::of(found)) {
+            return Err(no_backlog("it is the funnel, the configuration or the status file"));
+        }
+        Ok(())
     }
 
     // Removes the file that was read, and makes that durable, unless there is another file at this path by now, or a

@@ -135,11 +135,11 @@ Does says feeds holds old new DrillFromInput exit line = DrillsInput holds old n
 Does says feeds holds old new (Drill path) exit line = DrillsFile (says path.now) path.now old new exit line
 Does says feeds holds old new (Check path verbose) exit line =
     Checks (says path.now) path.now verbose old new exit line
-Does says feeds holds old new (Owed path verbose) exit line =
-    Works (says path.now) (λ conf end. feeds.listed conf verbose end) feeds.unasked
+Does says feeds holds old new (Owed path listing verbose) exit line =
+    Works (says path.now) (λ conf end. feeds.listed conf listing verbose end) feeds.unasked
     path.now verbose old new exit line
-Does says feeds holds old new (Feed path source verbose) exit line =
-    Works (says path.now) (λ conf end. feeds.fed conf (source_view source) verbose end) feeds.unasked
+Does says feeds holds old new (Feed path source drops_missing verbose) exit line =
+    Works (says path.now) (λ conf end. feeds.fed conf (source_view source) drops_missing verbose end) feeds.unasked
     path.now verbose old new exit line
 Does says feeds holds old new (Print text) exit line = Prints (string_bytes text) old new exit line
 Does says feeds holds old new (Mistake what) exit line =

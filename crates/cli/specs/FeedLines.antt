@@ -7,7 +7,7 @@ use Rattle.feed_ends.specs.declared.feed_end.FileError.{FileError}
 use Rattle.feed_ends.specs.declared.feed_end.FileError.TheVariants.{Unread, Unwritten, Unremoved, Output}
 use Rattle.feed_ends.specs.declared.feed_end.Owing.{Owing}
 use Rattle.feed_ends.specs.declared.feed_end.TapeError.{TapeError}
-use Rattle.feed_ends.specs.declared.feed_end.TapeError.TheVariants.{Taken, Failed}
+use Rattle.feed_ends.specs.declared.feed_end.TapeError.TheVariants.{Taken, Foreign, Failed}
 
 -- the tape of this name is refused, or failed
 abbrev pub failed_text : List ℕ → TapeFault → List ℕ
@@ -16,6 +16,7 @@ failed_text name fault = codes "tape " ++ name ++ codes ": " ++ tape_fault_name 
 -- what is wrong with a tape
 abbrev pub tape_text : TapeError → List ℕ
 tape_text (Taken directory) = codes "another innfeed works on " ++ string_bytes directory ++ 10 ∷ []
+tape_text (Foreign directory) = codes "run this as the owner of " ++ string_bytes directory ++ 10 ∷ []
 tape_text (Failed name fault) = failed_text name.items fault
 
 -- what is wrong with another file

@@ -36,5 +36,5 @@ output_text reason = codes "innfeed: cannot write standard output: " ++ reason +
 abbrev pub mistake_text : List ℕ → List ℕ
 mistake_text what =
     codes "innfeed: " ++ what
-    ++ codes "; usage: innfeed -c FILE [-C] [-x] [-v] [--owed] [--follow] [--tidy] [FUNNEL]"
+    ++ codes "; usage: innfeed -c FILE [-C] [-x] [-v] [--owed [--all]] [--follow] [--tidy] [--expired] [FUNNEL]"
     ++ codes " | innfeed --drill FILE | innfeed < SCRIPT" ++ 10 ∷ []

@@ -31,13 +31,17 @@ fn add_tapes(lines: &mut Vec<u8>, tapes: &[TapeError]) -> Result<(), AllocError>
     Ok(())
 }
 
-// `another innfeed works on DIRECTORY`, or `tape NAME: KIND`.
+// `another innfeed works on DIRECTORY`, `run this as the owner of DIRECTORY`, or `tape NAME: KIND`.
 fn add_tape(lines: &mut Vec<u8>, error: &TapeError) -> Result<(), AllocError>
     ensures { OnOk result (lines.new.items ≡ lines.old.items ++ tape_text error.now) }
 {
     match error {
         TapeError::Taken(directory) => {
             lines.extend_from_slice(b"another innfeed works on ")?;
+            lines.extend_from_slice(directory.as_bytes())?;
+        }
+        TapeError::Foreign(directory) => {
+            lines.extend_from_slice(b"run this as the owner of ")?;
             lines.extend_from_slice(directory.as_bytes())?;
         }
         TapeError::Failed { name, fault } => return add_tape_line(lines, name, *fault),

@@ -15,8 +15,8 @@ use std::io::{self, ErrorKind};
 
 // The usage, which follows a mistake in the arguments.
 const USAGE: &[u8] =
-    b"; usage: innfeed -c FILE [-C] [-x] [-v] [--owed] [--follow] [--tidy] [FUNNEL] | innfeed --drill FILE \
-    | innfeed < SCRIPT\n";
+    b"; usage: innfeed -c FILE [-C] [-x] [-v] [--owed [--all]] [--follow] [--tidy] [--expired] [FUNNEL] \
+    | innfeed --drill FILE | innfeed < SCRIPT\n";
 
 /// Why an order failed, or how a feed ended.
 #[derive(Drop)]

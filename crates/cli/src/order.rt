@@ -1,6 +1,6 @@
 // What the command line asks for.
 
-use feed_ends::Source;
+use feed_ends::{Listing, Source};
 
 /// What the program is to do.
 #[derive(Debug, Drop)]
@@ -14,17 +14,19 @@ pub enum Order<'a> {
         conf: &'a str,
         verbose: bool,
     },
-    /// Print what each peer of the configuration in the file `conf` is owed; if `verbose`, log the last line that is
-    /// acknowledged, and explain a bad configuration.
+    /// Print what each peer of the configuration in the file `conf` is owed, or all that waits in its backlog
+    /// directory; if `verbose`, log the last line that is acknowledged, and explain a bad configuration.
     Owed {
         conf: &'a str,
+        listing: Listing,
         verbose: bool,
     },
-    /// Feed the peers of the configuration in the file `conf` from this source; if `verbose`, log what becomes of
-    /// connections, and explain a bad configuration.
+    /// Feed the peers of the configuration in the file `conf` from this source; if `drops_missing`, drop every article
+    /// that is missing from the spool; if `verbose`, log what becomes of connections, and explain a bad configuration.
     Feed {
         conf: &'a str,
         source: Source<'a>,
+        drops_missing: bool,
         verbose: bool,
     },
     /// Print this text, the help or the version.

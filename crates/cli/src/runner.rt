@@ -14,7 +14,7 @@ use crate::files::ReadFile;
 use crate::order::Order;
 use drill::{Ending, run_script};
 use feed_conf::Conf;
-use feed_ends::{FeedEnd, Feeds, Source};
+use feed_ends::{FeedEnd, Feeds, Listing, Source};
 use std::alloc::Global;
 use std::io::{self, Read, Write};
 
@@ -95,16 +95,25 @@ fn perform<'a, F: ReadFile, P: Feeds, S: Read, W: Write>(
         Order::DrillFromInput => drill_input(alloc, input, out),
         Order::Drill(path) => drill_file(alloc, files, path, out),
         Order::Check { conf, verbose } => check_file(alloc, files, conf, verbose, out),
-        Order::Owed { conf, verbose } => {
-            let errand = Errand::List { verbose };
+        Order::Owed {
+            conf,
+            listing,
+            verbose,
+        } => {
+            let errand = Errand::List { listing, verbose };
             serve(alloc, files, feeds, conf, verbose, errand, out)
         }
         Order::Feed {
             conf,
             source,
+            drops_missing,
             verbose,
         } => {
-            let errand = Errand::Feed { source, verbose };
+            let errand = Errand::Feed {
+                source,
+                drops_missing,
+                verbose,
+            };
             serve(alloc, files, feeds, conf, verbose, errand, out)
         }
         Order::Print(text) => print(out, text.as_bytes()),
@@ -200,10 +209,17 @@ fn print_checked<'a, W: Write>(out: &mut W, checked: Checked) -> Result<Exit, Or
 // What to do with the settings in a file.
 #[derive(Clone, Copy)]
 enum Errand<'a> {
-    // List what their peers are owed.
-    List { verbose: bool },
+    // List what their peers are owed, or all that waits.
+    List {
+        listing: Listing,
+        verbose: bool,
+    },
     // Feed their peers.
-    Feed { source: Source<'a>, verbose: bool },
+    Feed {
+        source: Source<'a>,
+        drops_missing: bool,
+        verbose: bool,
+    },
 }
 
 fn serve<'a, F: ReadFile, P: Feeds, W: Write>(
@@ -243,8 +259,12 @@ fn run_errand<P: Feeds, W: Write>(
         (W.contents out.new) errand.entry (conf_view conf) result }
 {
     match errand {
-        Errand::List { verbose } => feeds.list_owed(alloc, conf, verbose, out),
-        Errand::Feed { source, verbose } => feeds.feed(alloc, conf, path, source, verbose, out),
+        Errand::List { listing, verbose } => feeds.list_owed(alloc, conf, listing, verbose, out),
+        Errand::Feed {
+            source,
+            drops_missing,
+            verbose,
+        } => feeds.feed(alloc, conf, path, source, drops_missing, verbose, out),
     }
 }
 

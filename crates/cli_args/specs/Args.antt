@@ -1,6 +1,8 @@
 -- What the arguments of the command line ask for (docs/MANUAL.md).
 use Rattle.std.specs.Prelude.{◌≡◌, ◌⊎◌, List, ℕ, Bool, true, false, Option, None, Some, IsSome, IsNone, codes}
-use Rattle.std.specs.Prelude.{option_map}
+use Rattle.std.specs.Prelude.{option_map, if◌then◌else◌}
+use Rattle.feed_ends.specs.declared.listing.Listing.{Listing}
+use Rattle.feed_ends.specs.declared.listing.Listing.TheVariants.{Peers, All}
 use Rattle.feed_ends.specs.declared.source.Source.{Source}
 use Rattle.feed_ends.specs.declared.source.Source.TheVariants.{Backlogs, Funnel}
 use Rattle.cli.specs.declared.order.Order.{Order}
@@ -12,14 +14,18 @@ abbrev pub HasSource : Given → Type 0
 HasSource given = ((given.backlog ≡ true) × (given.follow ≡ false) × (given.tidy ≡ false))
     ⊎ ((given.backlog ≡ false) × IsSome given.funnel)
 
+-- `--all` is given only beside `--owed`.
+abbrev pub AllFits : Given → Type 0
+AllFits given = (given.all ≡ false) ⊎ (given.owed ≡ true)
+
 -- something is asked for on a configuration
 abbrev pub HasOrder : Given → Type 0
-HasOrder given = (given.check ≡ true) ⊎ (given.owed ≡ true) ⊎ HasSource given
+HasOrder given = AllFits given × ((given.check ≡ true) ⊎ (given.owed ≡ true) ⊎ HasSource given)
 
 -- something is given besides `-c FILE` and `--drill FILE`
 abbrev pub HasMore : Given → Type 0
-HasMore given = (given.verbose ≡ true) ⊎ (given.follow ≡ true) ⊎ (given.tidy ≡ true) ⊎ (given.check ≡ true)
-    ⊎ (given.owed ≡ true) ⊎ (given.backlog ≡ true) ⊎ IsSome given.funnel
+HasMore given = (given.verbose ≡ true) ⊎ (given.follow ≡ true) ⊎ (given.tidy ≡ true) ⊎ (given.expired ≡ true)
+    ⊎ (given.check ≡ true) ⊎ (given.owed ≡ true) ⊎ (given.all ≡ true) ⊎ (given.backlog ≡ true) ⊎ IsSome given.funnel
 
 -- A drill's file, and nothing else.
 abbrev pub AsksDrill : List ℕ → Given → Type 0
@@ -28,11 +34,12 @@ AsksDrill path given =
 
 -- `-C` wins over all others; with `-v` its result is explained.
 abbrev pub AsksCheck : Bool → Given → Type 0
-AsksCheck verbose given = (given.check ≡ true) × (verbose ≡ given.verbose)
+AsksCheck verbose given = (given.check ≡ true) × (verbose ≡ given.verbose) × AllFits given
 
--- Otherwise `--owed` wins; with `-v` a bad configuration is explained.
-abbrev pub AsksOwed : Bool → Given → Type 0
-AsksOwed verbose given = (given.check ≡ false) × (given.owed ≡ true) × (verbose ≡ given.verbose)
+-- Otherwise `--owed` wins, and lists all that waits with `--all`; with `-v` a bad configuration is explained.
+abbrev pub AsksOwed : Listing → Bool → Given → Type 0
+AsksOwed listing verbose given = (given.check ≡ false) × (given.owed ≡ true) × (verbose ≡ given.verbose)
+    × (listing ≡ (if given.all then All else Peers))
 
 -- from the backlogs only with `-x`, otherwise from the funnel, which is followed with `--follow` and tidied with
 -- `--tidy`
@@ -41,18 +48,19 @@ AsksSource Backlogs given = (given.backlog ≡ true) × (given.follow ≡ false)
 AsksSource (Funnel path followed tidied) given = (given.backlog ≡ false) × (followed ≡ given.follow)
     × (tidied ≡ given.tidy) × (option_map (λ file. file.now) given.funnel ≡ Some path.now)
 
--- Otherwise the peers are fed; with `-v` that is logged.
-abbrev pub AsksFeed : Source → Bool → Given → Type 0
-AsksFeed source verbose given = (given.check ≡ false) × (given.owed ≡ false) × (verbose ≡ given.verbose)
-    × AsksSource source given
+-- Otherwise the peers are fed, with `--expired` every missing article is dropped, and with `-v` that is logged.
+abbrev pub AsksFeed : Source → (drops_missing verbose : Bool) → Given → Type 0
+AsksFeed source drops_missing verbose given = (given.check ≡ false) × (given.owed ≡ false) × (given.all ≡ false)
+    × (drops_missing ≡ given.expired) × (verbose ≡ given.verbose) × AsksSource source given
 
 -- What is asked for on the configuration at this path.
 abbrev pub AsksOf : List ℕ → Given → Order → Type 0
 AsksOf conf given DrillFromInput = ⊥
 AsksOf conf given (Drill path) = ⊥
 AsksOf conf given (Check path verbose) = (path.now ≡ conf) × AsksCheck verbose given
-AsksOf conf given (Owed path verbose) = (path.now ≡ conf) × AsksOwed verbose given
-AsksOf conf given (Feed path source verbose) = (path.now ≡ conf) × AsksFeed source verbose given
+AsksOf conf given (Owed path listing verbose) = (path.now ≡ conf) × AsksOwed listing verbose given
+AsksOf conf given (Feed path source drops_missing verbose) =
+    (path.now ≡ conf) × AsksFeed source drops_missing verbose given
 AsksOf conf given (Print text) = ⊥
 AsksOf conf given (Mistake what) = HasOrder given → ⊥
 
@@ -62,10 +70,10 @@ Asks given DrillFromInput = ⊥
 Asks given (Drill path) = AsksDrill path.now given
 Asks given (Check path verbose) = (option_map (λ file. file.now) given.config ≡ Some path.now) × IsNone given.drill
     × AsksCheck verbose given
-Asks given (Owed path verbose) = (option_map (λ file. file.now) given.config ≡ Some path.now) × IsNone given.drill
-    × AsksOwed verbose given
-Asks given (Feed path source verbose) = (option_map (λ file. file.now) given.config ≡ Some path.now) × IsNone given.drill
-    × AsksFeed source verbose given
+Asks given (Owed path listing verbose) = (option_map (λ file. file.now) given.config ≡ Some path.now)
+    × IsNone given.drill × AsksOwed listing verbose given
+Asks given (Feed path source drops_missing verbose) = (option_map (λ file. file.now) given.config ≡ Some path.now)
+    × IsNone given.drill × AsksFeed source drops_missing verbose given
 Asks given (Print text) = ⊥
 Asks given (Mistake what) = (IsSome given.drill × (IsSome given.config ⊎ HasMore given))
     ⊎ (IsNone given.drill × IsNone given.config)
@@ -76,8 +84,8 @@ abbrev pub IsPrinted : Order → Type 0
 IsPrinted DrillFromInput = ⊥
 IsPrinted (Drill path) = ⊥
 IsPrinted (Check path verbose) = ⊥
-IsPrinted (Owed path verbose) = ⊥
-IsPrinted (Feed path source verbose) = ⊥
+IsPrinted (Owed path listing verbose) = ⊥
+IsPrinted (Feed path source drops_missing verbose) = ⊥
 IsPrinted (Print text) = Unit {0}
 IsPrinted (Mistake what) = ⊥
 
@@ -86,8 +94,8 @@ abbrev pub IsMistaken : Order → Type 0
 IsMistaken DrillFromInput = ⊥
 IsMistaken (Drill path) = ⊥
 IsMistaken (Check path verbose) = ⊥
-IsMistaken (Owed path verbose) = ⊥
-IsMistaken (Feed path source verbose) = ⊥
+IsMistaken (Owed path listing verbose) = ⊥
+IsMistaken (Feed path source drops_missing verbose) = ⊥
 IsMistaken (Print text) = ⊥
 IsMistaken (Mistake what) = Unit {0}
 

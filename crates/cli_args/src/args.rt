@@ -1,16 +1,18 @@
 // The arguments of the command line, and the order that they give (docs/MANUAL.md).
 ghost use Rattle.std.specs.Prelude.{◌≡◌, ◌≢◌, ◌≤◌, ◌↔◌, ◌⊎◌, length};
-ghost use Rattle.std.specs.Prelude.{Ok, Err, IfOk, IsErr, IsTrue, codes, option_map, alloc_error};
+ghost use Rattle.std.specs.Prelude.{Ok, Err, IfOk, IsErr, IsTrue, codes, option_map, alloc_error, if◌then◌else◌};
 ghost use Rattle.clap.specs.Words.{first_value, found_of, kind_of, one_text};
-ghost use Rattle.cli_args.specs.Args.{Asks, AsksOf, AsksSource, HasMore, HasSource, IsFlag, IsMistaken, IsPrinted};
+ghost use Rattle.cli_args.specs.Args.{AllFits, Asks, AsksOf, AsksSource, HasMore, HasSource};
+ghost use Rattle.cli_args.specs.Args.{IsFlag, IsMistaken, IsPrinted};
 
 use clap::error::ErrorKind;
 use clap::{Arg, ArgAction, ArgMatches, Command, Error};
 use cli::{Order, VERSION};
-use feed_ends::Source;
+use feed_ends::{Listing, Source};
 use std::alloc::{AllocError, Global};
 
-const USAGE: &str = "innfeed -c FILE [-C] [-x] [-v] [--owed] [--follow] [--tidy] [FUNNEL]
+const USAGE: &str =
+    "innfeed -c FILE [-C] [-x] [-v] [--owed [--all]] [--follow] [--tidy] [--expired] [FUNNEL]
        innfeed --drill FILE
        innfeed < SCRIPT";
 
@@ -18,8 +20,8 @@ const ABOUT: &str =
     "The outgoing feeder of a news server: offers its peers the articles of a funnel and of their backlogs.";
 
 const AFTER_HELP: &str =
-    "-C takes precedence over --owed, and --owed over -x, --follow and --tidy. With -C, --owed or -x FUNNEL is
-ignored; otherwise it is required.
+    "-C takes precedence over --owed, and --owed over -x, --follow, --tidy and --expired. With -C, --owed or -x
+FUNNEL is ignored; otherwise it is required.
 Without arguments a drill script is read from standard input.
 
 Exit status: 0 success; 1 bad configuration, malformed drill script or refused step; 2 usage error;
@@ -49,9 +51,11 @@ struct Given<'a> {
     config: Option<&'a str>,
     check: bool,
     owed: bool,
+    all: bool,
     backlog: bool,
     follow: bool,
     tidy: bool,
+    expired: bool,
     verbose: bool,
     funnel: Option<&'a str>,
     drill: Option<&'a str>,
@@ -80,9 +84,11 @@ fn command<'a>(alloc: Global) -> Result<Command<'a>, AllocError> {
         .arg(config)?
         .arg(check_flag(alloc))?
         .arg(owed_flag(alloc))?
+        .arg(all_flag(alloc))?
         .arg(backlog_flag(alloc))?
         .arg(follow_flag(alloc))?
         .arg(tidy_flag(alloc))?
+        .arg(expired_flag(alloc))?
         .arg(verbose_flag(alloc))?
         .arg(drill)?
         .arg(funnel)
@@ -103,6 +109,15 @@ fn owed_flag<'a>(alloc: Global) -> Arg<'a> {
         .action(ArgAction::SetTrue)
         .help(
             "List what is queued for each peer: its name, and the number, token and message-id of each article",
+        )
+}
+
+fn all_flag<'a>(alloc: Global) -> Arg<'a> {
+    Arg::new(alloc, "all")
+        .long("all")
+        .action(ArgAction::SetTrue)
+        .help(
+            "With --owed, also list what is queued for names that are no peers, and what is kept beside the tapes",
         )
 }
 
@@ -129,6 +144,15 @@ fn tidy_flag<'a>(alloc: Global) -> Arg<'a> {
         .help("Remove segments of FUNNEL whose lines are all acknowledged; FUNNEL is a directory")
 }
 
+fn expired_flag<'a>(alloc: Global) -> Arg<'a> {
+    Arg::new(alloc, "expired")
+        .long("expired")
+        .action(ArgAction::SetTrue)
+        .help(
+            "Drop every article that is missing from the spool, for a spool whose copies have all expired",
+        )
+}
+
 fn verbose_flag<'a>(alloc: Global) -> Arg<'a> {
     Arg::new(alloc, "verbose")
         .short('v')
@@ -148,18 +172,22 @@ fn given_by<'a>(matches: &ArgMatches<'a>) -> Given<'a>
         ≡ first_value (found_of matches.now) (codes "funnel") }
     ensures check { IsFlag (one_text (found_of matches.now) (codes "check")) result.check }
     ensures owed { IsFlag (one_text (found_of matches.now) (codes "owed")) result.owed }
+    ensures all { IsFlag (one_text (found_of matches.now) (codes "all")) result.all }
     ensures backlog { IsFlag (one_text (found_of matches.now) (codes "backlog")) result.backlog }
     ensures follow { IsFlag (one_text (found_of matches.now) (codes "follow")) result.follow }
     ensures tidy { IsFlag (one_text (found_of matches.now) (codes "tidy")) result.tidy }
+    ensures expired { IsFlag (one_text (found_of matches.now) (codes "expired")) result.expired }
     ensures verbose { IsFlag (one_text (found_of matches.now) (codes "verbose")) result.verbose }
 {
     Given {
         config: matches.get_str("config"),
         check: matches.get_flag("check"),
         owed: matches.get_flag("owed"),
+        all: matches.get_flag("all"),
         backlog: matches.get_flag("backlog"),
         follow: matches.get_flag("follow"),
         tidy: matches.get_flag("tidy"),
+        expired: matches.get_flag("expired"),
         verbose: matches.get_flag("verbose"),
         funnel: matches.get_str("funnel"),
         drill: matches.get_str("drill"),
@@ -173,8 +201,10 @@ fn has_more(given: &Given<'_>) -> bool
     given.verbose
         || given.follow
         || given.tidy
+        || given.expired
         || given.check
         || given.owed
+        || given.all
         || given.backlog
         || given.funnel.is_some()
 }
@@ -194,6 +224,9 @@ fn order_of<'a>(alloc: Global, given: Given<'a>) -> Result<Order<'a>, AllocError
 fn order_on<'a>(alloc: Global, conf: &'a str, given: Given<'a>) -> Result<Order<'a>, AllocError>
     ensures { IfOk result (AsksOf conf.now given.entry) }
 {
+    if !all_fits(&given) {
+        return mistake(alloc, "'--all' requires '--owed'");
+    }
     if given.check {
         return Ok(Order::Check {
             conf,
@@ -203,6 +236,7 @@ fn order_on<'a>(alloc: Global, conf: &'a str, given: Given<'a>) -> Result<Order<
     if given.owed {
         return Ok(Order::Owed {
             conf,
+            listing: listing_of(&given),
             verbose: given.verbose,
         });
     }
@@ -210,9 +244,27 @@ fn order_on<'a>(alloc: Global, conf: &'a str, given: Given<'a>) -> Result<Order<
         Ok(source) => Ok(Order::Feed {
             conf,
             source,
+            drops_missing: given.expired,
             verbose: given.verbose,
         }),
         Err(what) => mistake(alloc, what),
+    }
+}
+
+// Whether `--all` is not given, or given beside `--owed`.
+fn all_fits(given: &Given<'_>) -> bool
+    ensures { IsTrue result ↔ AllFits given.now }
+{
+    !given.all || given.owed
+}
+
+fn listing_of(given: &Given<'_>) -> Listing
+    ensures { result ≡ (if given.now.all then Listing.All else Listing.Peers) }
+{
+    if given.all {
+        Listing::All
+    } else {
+        Listing::Peers
     }
 }
 

@@ -22,7 +22,7 @@ use Rattle.feed_conf.specs.declared.key.SettingKey.TheVariants.{NoCheckHigh, NoC
 use Rattle.feed_conf.specs.declared.key.SettingKey.TheVariants.{InitialReconnectTime, MaxReconnectTime, DropDeferred}
 use Rattle.feed_conf.specs.declared.key.SettingKey.TheVariants.{BacklogLimit, BacklogLimitHighwater, BacklogFactor}
 use Rattle.feed_conf.specs.declared.key.SettingKey.TheVariants.{NewsSpool}
-use Rattle.feed_conf.specs.declared.key.SettingKey.TheVariants.{BacklogDirectory, StatusFile}
+use Rattle.feed_conf.specs.declared.key.SettingKey.TheVariants.{BacklogDirectory, StatusFile, UnknownLimit}
 use Rattle.feed_conf.specs.declared.key.Kind.{Kind}
 use Rattle.feed_conf.specs.declared.key.Kind.TheVariants.{AnyText, ShortText, Switch, Connections, Number, Whole}
 use Rattle.feed_conf.specs.declared.key.Kind.TheVariants.{Fraction}
@@ -249,6 +249,7 @@ index-key BacklogFactor = refl
 index-key NewsSpool = refl
 index-key BacklogDirectory = refl
 index-key StatusFile = refl
+index-key UnknownLimit = refl
 
 -- no two keys have one index
 index-once : (one other : SettingKey) → (row_of one).index ≡ (row_of other).index → one ≡ other
@@ -275,6 +276,7 @@ default-within BacklogFactor name = omega arith
 default-within NewsSpool name = omega arith
 default-within BacklogDirectory name = omega arith
 default-within StatusFile name = omega arith
+default-within UnknownLimit name = omega arith
 
 -- the value, if there is one, is at most the greatest of the key
 abbrev IsWithin : SettingKey → Option Value → Type 0

@@ -14,6 +14,7 @@ conf_view conf = record {
   news_spool = conf.news_spool.items;
   backlog_directory = conf.backlog_directory.items;
   status_file = conf.status_file.items;
+  unknown_limit = conf.unknown_limit;
   peers = map settings_view conf.peers.items;
   reports = map report_view conf.ignored.items;
 }

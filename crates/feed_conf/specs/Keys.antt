@@ -4,7 +4,7 @@ use Rattle.std.specs.List.{find}
 use Rattle.std.specs.Str.{bytes_eq}
 use Rattle.feed_conf.specs.Values.{Value, TextOf, SwitchOf, NumberOf}
 use Rattle.feed_conf.specs.declared.key.SettingKey.{SettingKey}
-use Rattle.feed_conf.specs.declared.key.SettingKey.TheVariants.{IpName, PortNumber, Streaming, MaxConnections, MaxQueueSize, NoCheckHigh, NoCheckLow, NoCheckFilter, ResponseTimeout, InitialReconnectTime, MaxReconnectTime, DropDeferred, BacklogLimit, BacklogLimitHighwater, BacklogFactor, NewsSpool, BacklogDirectory, StatusFile}
+use Rattle.feed_conf.specs.declared.key.SettingKey.TheVariants.{IpName, PortNumber, Streaming, MaxConnections, MaxQueueSize, NoCheckHigh, NoCheckLow, NoCheckFilter, ResponseTimeout, InitialReconnectTime, MaxReconnectTime, DropDeferred, BacklogLimit, BacklogLimitHighwater, BacklogFactor, NewsSpool, BacklogDirectory, StatusFile, UnknownLimit}
 use Rattle.feed_conf.specs.declared.key.Kind.{Kind}
 use Rattle.feed_conf.specs.declared.key.Kind.TheVariants.{AnyText, ShortText, Switch, Connections, Number, Whole, Fraction}
 
@@ -38,10 +38,11 @@ row_of BacklogFactor = record { index = 14; name = codes "backlog-factor"; kind 
 row_of NewsSpool = record { index = 15; name = codes "news-spool"; kind = AnyText; of_file = true; default = λ peer. TextOf (codes "articles") }
 row_of BacklogDirectory = record { index = 16; name = codes "backlog-directory"; kind = AnyText; of_file = true; default = λ peer. TextOf (codes "innfeed") }
 row_of StatusFile = record { index = 17; name = codes "status-file"; kind = AnyText; of_file = true; default = λ peer. TextOf (codes "innfeed.status") }
+row_of UnknownLimit = record { index = 18; name = codes "unknown-limit"; kind = Number 0 4294967296; of_file = true; default = λ peer. NumberOf 67108864 }
 
 abbrev pub all_keys : List SettingKey
 all_keys =
-    IpName ∷ PortNumber ∷ Streaming ∷ MaxConnections ∷ MaxQueueSize ∷ NoCheckHigh ∷ NoCheckLow ∷ NoCheckFilter ∷ ResponseTimeout ∷ InitialReconnectTime ∷ MaxReconnectTime ∷ DropDeferred ∷ BacklogLimit ∷ BacklogLimitHighwater ∷ BacklogFactor ∷ NewsSpool ∷ BacklogDirectory ∷ StatusFile ∷ []
+    IpName ∷ PortNumber ∷ Streaming ∷ MaxConnections ∷ MaxQueueSize ∷ NoCheckHigh ∷ NoCheckLow ∷ NoCheckFilter ∷ ResponseTimeout ∷ InitialReconnectTime ∷ MaxReconnectTime ∷ DropDeferred ∷ BacklogLimit ∷ BacklogLimitHighwater ∷ BacklogFactor ∷ NewsSpool ∷ BacklogDirectory ∷ StatusFile ∷ UnknownLimit ∷ []
 
 abbrev pub key_of : List ℕ → Option SettingKey
 key_of name = find (λ key. bytes_eq (row_of key).name name) all_keys

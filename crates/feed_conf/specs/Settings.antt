@@ -13,7 +13,7 @@ use Rattle.feed_conf.specs.declared.key.SettingKey.TheVariants.{NoCheckHigh, NoC
 use Rattle.feed_conf.specs.declared.key.SettingKey.TheVariants.{InitialReconnectTime, MaxReconnectTime, DropDeferred}
 use Rattle.feed_conf.specs.declared.key.SettingKey.TheVariants.{BacklogLimit, BacklogLimitHighwater, BacklogFactor}
 use Rattle.feed_conf.specs.declared.key.SettingKey.TheVariants.{NewsSpool}
-use Rattle.feed_conf.specs.declared.key.SettingKey.TheVariants.{BacklogDirectory, StatusFile}
+use Rattle.feed_conf.specs.declared.key.SettingKey.TheVariants.{BacklogDirectory, StatusFile, UnknownLimit}
 use Rattle.feed_conf.specs.declared.fault.ConfFault.{ConfFault}
 use Rattle.feed_conf.specs.declared.fault.ConfFaultKind.TheVariants.{LowAboveHigh}
 
@@ -133,6 +133,8 @@ pub record Outcome : Type 0 where
   pub news_spool : List ℕ
   pub backlog_directory : List ℕ
   pub status_file : List ℕ
+  -- the most octets that are kept of lines that name unknown peers
+  pub unknown_limit : ℕ
   -- the peers in the order of their declarations
   pub peers : List Settings
   -- what is ignored or limited, in reading order
@@ -143,6 +145,7 @@ outcome_of state = record {
   news_spool = text (value_in_file state.uses NewsSpool);
   backlog_directory = text (value_in_file state.uses BacklogDirectory);
   status_file = text (value_in_file state.uses StatusFile);
+  unknown_limit = number (value_in_file state.uses UnknownLimit);
   peers = map (settings_of state.uses state.outer) state.peers;
   reports = state.reports;
 }

@@ -56,6 +56,7 @@ pub struct Conf {
     pub(crate) news_spool: Vec<u8>,
     pub(crate) backlog_directory: Vec<u8>,
     pub(crate) status_file: Vec<u8>,
+    pub(crate) unknown_limit: u64,
     pub(crate) peers: Vec<PeerConf>,
     pub(crate) ignored: Vec<Ignored>,
     pub(crate) names: BTreeMap<String, usize>,
@@ -123,5 +124,12 @@ impl Conf {
         ensures { result.now ≡ (conf_view self.now).status_file }
     {
         &self.status_file
+    }
+
+    /// The most octets that are kept of lines that name unknown peers.
+    pub fn unknown_limit(&self) -> u64
+        ensures { result ≡ (conf_view self.now).unknown_limit }
+    {
+        self.unknown_limit
     }
 }

@@ -66,9 +66,11 @@ pub(crate) enum SettingKey {
     BacklogDirectory,
     /// The file of the status report.
     StatusFile,
+    /// The most octets that are kept of lines that name unknown peers.
+    UnknownLimit,
 }
 
-const KEYS: [SettingKey; 18] = [
+const KEYS: [SettingKey; 19] = [
     SettingKey::IpName,
     SettingKey::PortNumber,
     SettingKey::Streaming,
@@ -87,6 +89,7 @@ const KEYS: [SettingKey; 18] = [
     SettingKey::NewsSpool,
     SettingKey::BacklogDirectory,
     SettingKey::StatusFile,
+    SettingKey::UnknownLimit,
 ];
 
 #[derive(Clone, Copy)]
@@ -161,6 +164,25 @@ fn file_text(index: usize, name: &'static [u8], default: &'static [u8]) -> Row
     }
 }
 
+fn file_number(index: usize, name: &'static [u8], kind: Kind, default: u64) -> Row
+    ensures { row_view result
+        ≡ record {
+          index = index;
+          name = name.now;
+          kind = kind;
+          of_file = true;
+          default = λ _. NumberOf default;
+        } }
+{
+    Row {
+        index,
+        name,
+        kind,
+        of_file: true,
+        default: Some(Value::Number(default)),
+    }
+}
+
 impl SettingKey {
     fn row(self) -> Row
         ensures { row_view result ≡ row_of self }
@@ -200,6 +222,7 @@ impl SettingKey {
             SettingKey::NewsSpool => file_text(15, b"news-spool", b"articles"),
             SettingKey::BacklogDirectory => file_text(16, b"backlog-directory", b"innfeed"),
             SettingKey::StatusFile => file_text(17, b"status-file", b"innfeed.status"),
+            SettingKey::UnknownLimit => file_number(18, b"unknown-limit", OCTETS, 67_108_864),
         }
     }
 

@@ -26,6 +26,7 @@ fn make_conf(alloc: Global, reader: Reader<'_>) -> Result<Conf, ConfFault>
     let news_spool = table.file_text(alloc, SettingKey::NewsSpool)?;
     let backlog_directory = table.file_text(alloc, SettingKey::BacklogDirectory)?;
     let status_file = table.file_text(alloc, SettingKey::StatusFile)?;
+    let unknown_limit = table.file_number(SettingKey::UnknownLimit);
     let Reader {
         alloc: _,
         around: _,
@@ -40,6 +41,7 @@ fn make_conf(alloc: Global, reader: Reader<'_>) -> Result<Conf, ConfFault>
         news_spool,
         backlog_directory,
         status_file,
+        unknown_limit,
         peers,
         ignored,
         names,

@@ -113,6 +113,18 @@ impl<'t> Table<'t> {
         }
     }
 
+    pub(crate) fn file_number(&self, key: SettingKey) -> u64
+        ensures { (uses : List Noted) → IsTableOf self.now uses
+            → result ≡ number (value_in_file uses key) }
+    {
+        let value = self.last_value(0, key);
+        match value.unwrap_or(key.default_value(&[])) {
+            Value::Number(number) => number,
+            Value::Text(_) => 0,
+            Value::Switch(_) => 0,
+        }
+    }
+
     pub(crate) fn file_text(&self, alloc: Global, key: SettingKey) -> Result<Vec<u8>, AllocError>
         ensures { (uses : List Noted) → IsTableOf self.now uses
             → IfOk result (λ v. v.items ≡ text (value_in_file uses key)) }

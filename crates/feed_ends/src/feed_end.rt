@@ -7,6 +7,8 @@ use std::alloc::Global;
 pub enum TapeError {
     /// Another process works on the backlog directory at this path.
     Taken(String),
+    /// The backlog directory at this path is another user's, and the process runs as root.
+    Foreign(String),
     /// The tape of this name, a peer's or `~intake`, could not be opened, or failed during the run.
     Failed { name: Vec<u8>, fault: TapeFault },
 }

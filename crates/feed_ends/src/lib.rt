@@ -8,8 +8,10 @@
 
 mod feed_end;
 mod feeds;
+mod listing;
 mod source;
 
 pub use feed_end::{FeedEnd, FileError, Owing, TapeError};
 pub use feeds::Feeds;
+pub use listing::Listing;
 pub use source::Source;

@@ -10,20 +10,22 @@ use article_store::SpoolDirectory;
 use disk_model::{FileDisk, TapeDirectory, TapeFile};
 use feed_conf::{Conf, PeerConf};
 use feed_ends::{FeedEnd, FileError, Source};
-use feeder::{Feeder, FeederFault, PeerTarget, Spool, UnreadPaths};
+use feeder::{Feeder, FeederFault, PeerTarget, Spool, SpoolTally, UnreadPaths};
 use flusher::{
-    Blanks, FeederShare, Flusher, Free, Naming, NoThread, Post, PostFault, PostPeer, Signals,
-    run_threads,
+    Blanks, FeederShare, Flusher, Free, IntakeShare, Naming, NoThread, Post, PostFault, PostPeer,
+    Signals, run_threads,
 };
 use funnel::PeerName;
 use funnel_files::Funnel;
 use intake::{
-    Countdown, CountedWorker, IntakeWorker, Nowhere, OtherFiles, Progress, RunError, StatusFile,
-    StopFile, Tapes, add_all, close, flush_stations, most_connections, open_funnel, open_tapes,
-    remove_stop, take_backlogs,
+    Countdown, CountedWorker, IntakeWorker, KeptRoom, LeftOut, LineKeeper, Nowhere, OtherFiles,
+    Progress, RunError, StatusFile, StopFile, Tapes, add_all, close, flush_stations, is_followed,
+    keeper_for, most_connections, open_funnel, open_tapes, refuse_root, remove_room, remove_stop,
+    take_backlogs,
 };
-use log::{Log, info};
+use log::{Log, warn};
 use mio::Waker;
+use owed_list::log_strangers;
 use recovery::Tape;
 use resolver::{Host, LookUp, Resolver};
 use std::alloc::{AllocError, Global};
@@ -48,18 +50,71 @@ pub(crate) struct RunEnv<'a, R, F, H, C, L> {
     pub look_up: L,
 }
 
-// What is prepared before the threads start, besides the tapes.
+// What the settings say besides the peers.
 #[derive(Drop)]
-struct Prepared<'a, S, F> {
-    names: Vec<PeerName>,
+struct Places {
+    directory: Vec<u8>,
+    spool: Vec<u8>,
+    status: Vec<u8>,
+    // The most octets that are kept of lines that name unknown peers.
+    unknown_limit: u64,
+}
+
+// The backlog directory, which is locked, and its path.
+#[derive(Clone, Copy)]
+struct Backlogs<'a> {
+    tapes: &'a TapeDirectory,
+    path: &'a str,
+}
+
+// The tapes of a run that are open.
+#[derive(Drop)]
+struct OpenTapes {
+    confs: Vec<PeerConf>,
+    peers: Vec<PostPeer<FileDisk<TapeFile>>>,
+    intake: Tape<FileDisk<TapeFile>>,
+}
+
+// What the feeders are made of.
+#[derive(Drop)]
+struct Feeding<S> {
     targets: (Vec<PeerTarget>, Vec<PeerTarget>),
     hosts: Vec<Host>,
     spools: (Spool<S>, Spool<S>),
+    tally: Arc<SpoolTally>,
+    // Whether they leave idle connections.
+    is_lasting: bool,
+    // Whether they drop each article that is missing.
+    drops_missing: bool,
+    start: Instant,
+}
+
+// What the intake is made of, besides its share.
+#[derive(Drop)]
+struct Taking<'a, F> {
+    names: Vec<PeerName>,
     funnel: Option<Funnel<'a, F>>,
+    keeper: LineKeeper,
+    room: Option<KeptRoom<'a, F>>,
     status: Vec<u8>,
     // The file that asks the run to end, if it follows its funnel.
     stop: Option<StopFile<'a, F>>,
     start: Instant,
+}
+
+// What is prepared before the threads start, besides the tapes.
+#[derive(Drop)]
+struct Prepared<'a, S, F> {
+    feeding: Feeding<S>,
+    taking: Taking<'a, F>,
+}
+
+// The two feeders, the resolver that they share, and what wakes each.
+#[derive(Drop)]
+struct Feeders<S: SpoolDirectory + Drop, C: Net + Drop, N: Naming> {
+    resolver: Resolver,
+    both: (Feeder<S, C, N>, Feeder<S, C, N>),
+    wakers: (Arc<Waker>, Arc<Waker>),
 }
 
 /// Feeds the peers of these settings, which were read from the file at `path`, from this source. Adds to `end` what
@@ -80,49 +135,135 @@ pub(crate) fn feed<
     conf: Conf,
     path: &str,
     source: Source<'_>,
+    drops_missing: bool,
     out: &mut W,
     end: &mut FeedEnd,
 ) -> Result<(), RunError> {
-    let alloc = env.files.alloc();
-    let directory = Vec::from_slice(alloc, conf.backlog_directory())?;
-    let spool = Vec::from_slice(alloc, conf.news_spool())?;
-    let status = Vec::from_slice(alloc, conf.status_file())?;
-    let peers = by_name(conf);
+    let places = places_of(env.files.alloc(), &conf)?;
+    let directory = text_of(&places.directory);
+    refuse_root(env.files, directory)?;
     // `tapes` holds the directory's lock until the end.
     let Tapes {
         directory: tapes,
-        peers: mut stations,
+        confs,
+        peers,
+        left_out,
         intake,
-    } = open_tapes(env.rt, env.files, &directory, &peers)?;
+    } = open_tapes(
+        env.rt,
+        env.files,
+        &places.directory,
+        by_name(conf),
+        is_followed(source),
+    )?;
+    let backlogs = Backlogs {
+        tapes: &tapes,
+        path: directory,
+    };
+    let opened = OpenTapes {
+        confs,
+        peers,
+        intake,
+    };
+    let fed = feed_open(
+        env,
+        backlogs,
+        &places,
+        path,
+        source,
+        drops_missing,
+        opened,
+        &left_out,
+        out,
+        end,
+    );
+    log_fault(env.rt, backlogs);
+    if is_followed(source) {
+        remove_room(env.rt, env.files, &tapes, directory);
+    }
+    for peer in left_out {
+        peer.error.add_to(end);
+    }
+    fed
+}
+
+fn places_of(alloc: Global, conf: &Conf) -> Result<Places, AllocError> {
+    Ok(Places {
+        directory: Vec::from_slice(alloc, conf.backlog_directory())?,
+        spool: Vec::from_slice(alloc, conf.news_spool())?,
+        status: Vec::from_slice(alloc, conf.status_file())?,
+        unknown_limit: conf.unknown_limit(),
+    })
+}
+
+// Feeds the peers whose tapes are open; `left_out` are the others. `path` is that of the settings.
+fn feed_open<
+    R: AllocGlobal + Threads + Wait + Clock + Log + Send + Sync + 'static,
+    F: AllocGlobal + Files<File = File>,
+    S: SpoolDirectory + Send + Drop,
+    H: Spools<Store = S>,
+    C: Net<Listener = TcpListener, Stream = TcpStream> + Copy + Drop + Send,
+    L: LookUp + Copy + Send + Sync + Drop + 'static,
+    W: Write,
+>(
+    env: &RunEnv<'_, R, F, H, C, L>,
+    backlogs: Backlogs<'_>,
+    places: &Places,
+    path: &str,
+    source: Source<'_>,
+    drops_missing: bool,
+    opened: OpenTapes,
+    left_out: &[LeftOut],
+    out: &mut W,
+    end: &mut FeedEnd,
+) -> Result<(), RunError> {
+    let OpenTapes {
+        confs,
+        peers,
+        intake,
+    } = opened;
+    let mut peers = peers;
+    let limit = places.unknown_limit;
+    let keeper = keeper_for(
+        env.rt,
+        env.files,
+        backlogs.tapes,
+        backlogs.path,
+        left_out,
+        limit,
+    )?;
     // A run that is asked to end while backlog files are imported ends after that.
-    let stop = StopFile::for_source(env.rt, env.files, source, text_of(&directory))?;
+    let stop = StopFile::for_source(env.rt, env.files, source, backlogs.path)?;
     let others = OtherFiles {
         conf: path,
-        status: text_of(&status),
+        status: text_of(&places.status),
         source,
     };
     take_backlogs(
         env.rt,
         env.files,
-        &tapes,
-        text_of(&directory),
+        backlogs.tapes,
+        backlogs.path,
         others,
-        &mut stations,
-    )
-    .inspect_err(|_| log_fault(env.rt, &directory, &tapes))?;
+        &mut peers,
+    )?;
     let funnel = open_funnel(env.rt, env.files, &env.net, source, intake.mark())?;
-    let prepared = prepare(env, &peers, &spool, funnel, stop, status)?;
-    let stations = flush_stations(env.rt, alloc, stations)?;
-    let blanks = Blanks::new(alloc, stations.len())?;
-    work::<Brand, R, F, S, H, C, L, W>(env, prepared, stations, intake, blanks, out, end)?;
-    log_fault(env.rt, &directory, &tapes);
-    Ok(())
+    let is_lasting = stop.is_some();
+    let taking = taking_of(env, backlogs, places, &confs, funnel, stop, keeper)?;
+    let start = taking.start;
+    let feeding = feeding_of(env, places, &confs, is_lasting, drops_missing, start)?;
+    let prepared = Prepared { feeding, taking };
+    let others = prepared.taking.keeper.left_out();
+    log_strangers(env.rt, env.files, &places.directory, &confs, others);
+    let peers = flush_stations(env.rt, env.files.alloc(), peers)?;
+    let blanks = Blanks::new(env.files.alloc(), peers.len())?;
+    work::<Brand, R, F, S, H, C, L, W>(env, backlogs, prepared, peers, intake, blanks, out, end)
 }
 
 // Logs why the system refused a call on a tape's file, the first one only.
-fn log_fault<R: Log>(rt: &R, directory: &[u8], tapes: &TapeDirectory) {
-    if let Some(fault) = tapes.first_fault() {
-        info!(rt; "tape file {}/{}: {}", text_of(directory), fault.name, fault.reason);
+fn log_fault<R: Log>(rt: &R, backlogs: Backlogs<'_>) {
+    if let Some(fault) = backlogs.tapes.first_fault() {
+        warn!(rt; "tape file {}/{}: {}", backlogs.path, fault.name, fault.reason);
     }
 }
 
@@ -131,42 +272,71 @@ fn text_of(path: &[u8]) -> &str {
     str::from_utf8(path).unwrap_or("")
 }
 
-// Opens the spool for each feeder, and makes its targets. No host is looked up yet.
-fn prepare<'a, R: Clock + Log, F: AllocGlobal, S: Drop, H: Spools<Store = S>, C, L>(
-    env: &RunEnv<'a, R, F, H, C, L>,
+// What the feeders are made of: opens the spool for each, and makes its targets. No host is looked up yet.
+fn feeding_of<R: Clock + Log, F: AllocGlobal, S: Drop, H: Spools<Store = S>, C, L>(
+    env: &RunEnv<'_, R, F, H, C, L>,
+    places: &Places,
     peers: &[PeerConf],
-    spool: &[u8],
-    funnel: Option<Funnel<'a, F>>,
-    stop: Option<StopFile<'a, F>>,
-    status: Vec<u8>,
-) -> Result<Prepared<'a, S, F>, RunError> {
+    is_lasting: bool,
+    drops_missing: bool,
+    start: Instant,
+) -> Result<Feeding<S>, RunError> {
     let alloc = env.files.alloc();
-    let Ok(path) = str::from_utf8(spool) else {
+    let Ok(path) = str::from_utf8(&places.spool) else {
         let invalid = io::Error::from(ErrorKind::InvalidInput);
-        return Err(RunError::unread(env.rt, alloc, spool, &invalid));
+        return Err(RunError::unread(env.rt, alloc, &places.spool, &invalid));
     };
     let most = most_connections(env.rt, peers);
-    let mut names = Vec::new(alloc);
-    for peer in peers {
-        names.push(peer.name.clone()?)?;
-    }
-    let start = match Instant::now(env.rt) {
-        Ok(start) => start,
-        Err(error) => return Err(RunError::refused(env.rt, "read the clock", &error)),
-    };
-    Ok(Prepared {
-        names,
+    Ok(Feeding {
         targets: (
             targets_of(alloc, peers, most)?,
             targets_of(alloc, peers, most)?,
         ),
         hosts: hosts_of(alloc, peers)?,
         spools: (open_spool(env, path)?, open_spool(env, path)?),
+        tally: Arc::new(alloc, SpoolTally::new(alloc, path, peers.len())?)?,
+        is_lasting,
+        drops_missing,
+        start,
+    })
+}
+
+// What the intake is made of. If the run follows its funnel, room is kept back.
+fn taking_of<'a, R: Clock + Log, F: AllocGlobal + Files<File = File>, H, C, L>(
+    env: &RunEnv<'a, R, F, H, C, L>,
+    backlogs: Backlogs<'a>,
+    places: &Places,
+    peers: &[PeerConf],
+    funnel: Option<Funnel<'a, F>>,
+    stop: Option<StopFile<'a, F>>,
+    keeper: LineKeeper,
+) -> Result<Taking<'a, F>, RunError> {
+    let alloc = env.files.alloc();
+    let start = match Instant::now(env.rt) {
+        Ok(start) => start,
+        Err(error) => return Err(RunError::refused(env.rt, "read the clock", &error)),
+    };
+    let room = match &stop {
+        Some(_) => Some(KeptRoom::new(env.rt, env.files, backlogs.tapes, backlogs.path, start)?),
+        None => None,
+    };
+    Ok(Taking {
+        names: names_of(alloc, peers)?,
         funnel,
-        status,
+        keeper,
+        room,
+        status: Vec::from_slice(alloc, &places.status)?,
         stop,
         start,
     })
+}
+
+fn names_of(alloc: Global, peers: &[PeerConf]) -> Result<Vec<PeerName>, AllocError> {
+    let mut names = Vec::new(alloc);
+    for peer in peers {
+        names.push(peer.name.clone()?)?;
+    }
+    Ok(names)
 }
 
 // The spool below the directory at this path.
@@ -181,13 +351,13 @@ fn open_spool<R, F: AllocGlobal, S: Drop, H: Spools<Store = S>, C, L>(
     })
 }
 
-// Runs the threads, writes the status file, and adds to `end` what went wrong and what is still owed.
+// Makes the post of these stations, and runs its threads.
 //
 // The `requires` are those of `Post::new`. They tie the blanks, of which the token ledgers and the queues are made, to
 // these peers:
 //
-// - `names`: the token ledgers and queues `N` are named after these blanks and these peers. `feed` picks such an `N`
-//   (`proofs/run/feed`).
+// - `names`: the token ledgers and queues `N` are named after these blanks and these peers. `feed_open` picks such an
+//   `N` (`proofs/run/feed_open`).
 // - `blanks`: there is a queue for each peer, and each token ledger has one part for each of its holders. Whoever
 //   counts in it holds one of its parts. Only the intake counts what is taken (`workers.parts ≡ 1`); two feeders and
 //   the flusher count what is answered and what is dropped (3). On the other side each station counts, one for each
@@ -204,6 +374,7 @@ fn work<
     W: Write,
 >(
     env: &RunEnv<'_, R, F, H, C, L>,
+    backlogs: Backlogs<'_>,
     prepared: Prepared<'_, S, F>,
     stations: Vec<PostPeer<FileDisk<TapeFile>>>,
     intake: Tape<FileDisk<TapeFile>>,
@@ -220,30 +391,64 @@ fn work<
     let (post, share, one, other, third) = Post::<FileDisk<TapeFile>, N>::new(
         alloc, stations, intake, blanks,
     )?;
-    let Prepared {
+    let Prepared { feeding, taking } = prepared;
+    let tally = Arc::try_clone(&feeding.tally)?;
+    let feeders = feeders_of(env, feeding, (one, other))?;
+    let taker = (share, acknowledged);
+    run_workers(
+        env,
+        backlogs,
+        &post,
+        feeders,
+        Flusher::new(third),
+        taking,
+        taker,
+        &tally,
+        out,
+        end,
+    );
+    Ok(())
+}
+
+// Runs the threads of this post until all have ended, and adds to `end` what went wrong and what is still owed. The
+// intake has this share, and begins after the lines that are acknowledged.
+fn run_workers<
+    N: Naming + Send + Sync,
+    R: AllocGlobal + Threads + Wait + Clock + Log + Send + Sync + 'static,
+    F: AllocGlobal + Files<File = File>,
+    S: SpoolDirectory + Send + Drop,
+    H,
+    C: Net<Listener = TcpListener, Stream = TcpStream> + Copy + Drop + Send,
+    L,
+    W: Write,
+>(
+    env: &RunEnv<'_, R, F, H, C, L>,
+    backlogs: Backlogs<'_>,
+    post: &Post<FileDisk<TapeFile>, N>,
+    feeders: Feeders<S, C, N>,
+    flusher: Flusher<N>,
+    taking: Taking<'_, F>,
+    (share, acknowledged): (IntakeShare<N>, u64),
+    tally: &SpoolTally,
+    out: &mut W,
+    end: &mut FeedEnd,
+) {
+    let alloc = env.files.alloc();
+    // The resolver lives as long as the feeders run.
+    let Feeders {
+        resolver: _resolver,
+        both: (first, second),
+        wakers,
+    } = feeders;
+    let Taking {
         names,
-        targets,
-        hosts,
-        spools,
         funnel,
+        keeper,
+        room,
         status,
         stop,
         start,
-    } = prepared;
-    let resolver = Resolver::start(env.rt, alloc, hosts, env.look_up)?;
-    let (first, second) = feeders(
-        env,
-        &resolver,
-        targets,
-        spools,
-        start,
-        (one, other),
-        stop.is_some(),
-    )?;
-    let wakers = (
-        waker_of(env.rt, alloc, &resolver, &first)?,
-        waker_of(env.rt, alloc, &resolver, &second)?,
-    );
+    } = taking;
     let countdown = Countdown::new(2);
     let mut intake = IntakeWorker {
         alloc,
@@ -252,9 +457,14 @@ fn work<
         out,
         wakers,
         names: &names,
-        status: StatusFile::new(env.files, status, start),
+        status: StatusFile::new(env.files, status, start, stop.is_some()),
         progress: Progress::new(alloc, start),
         nowhere: Nowhere::new(alloc),
+        keeper,
+        files: env.files,
+        tapes: backlogs.tapes,
+        directory: backlogs.path,
+        room,
         acknowledged,
         nowhere_logged: start,
         countdown: &countdown,
@@ -270,17 +480,9 @@ fn work<
         worker: second,
         countdown: &countdown,
     };
-    let (signals, flusher) = (Signals::new(), Flusher::new(third));
+    let signals = Signals::new();
     let feeders = (first, second);
-    let ended = run_threads(
-        env.rt,
-        &post,
-        &signals,
-        feeders,
-        flusher,
-        &mut intake,
-        &Free,
-    );
+    let ended = run_threads(env.rt, post, &signals, feeders, flusher, &mut intake, &Free);
     let IntakeWorker {
         status,
         stop,
@@ -297,34 +499,59 @@ fn work<
         }
         Err(NoThread) => RunError::OutOfResources.add_to(end),
     }
-    close(env.rt, &post, &names, (status, has_no_status), end);
+    tally.log(env.rt, &names);
+    close(env.rt, post, &names, (status, has_no_status), end);
     remove_stop(env.rt, stop, end);
-    Ok(())
 }
 
-// The two feeders, which share this resolver. `is_lasting` is whether they leave idle connections.
-fn feeders<N: Naming, R: Log, F: AllocGlobal, S: SpoolDirectory + Drop, H, C: Net + Copy + Drop, L>(
+// The two feeders, with these shares.
+fn feeders_of<
+    N: Naming,
+    R: Wait + Clock + Threads + Log + Send + Sync + 'static,
+    F: AllocGlobal,
+    S: SpoolDirectory + Drop,
+    H,
+    C: Net + Copy + Drop,
+    L: LookUp + Copy + Send + Sync + Drop + 'static,
+>(
     env: &RunEnv<'_, R, F, H, C, L>,
-    resolver: &Resolver,
-    targets: (Vec<PeerTarget>, Vec<PeerTarget>),
-    spools: (Spool<S>, Spool<S>),
-    start: Instant,
+    feeding: Feeding<S>,
     shares: (FeederShare<N>, FeederShare<N>),
-    is_lasting: bool,
-) -> Result<(Feeder<S, C, N>, Feeder<S, C, N>), RunError> {
+) -> Result<Feeders<S, C, N>, RunError> {
     let alloc = env.files.alloc();
+    let Feeding {
+        targets,
+        hosts,
+        spools,
+        tally,
+        is_lasting,
+        drops_missing,
+        start,
+    } = feeding;
+    let resolver = Resolver::start(env.rt, alloc, hosts, env.look_up)?;
     let (hosts, others) = (resolver.try_clone()?, resolver.try_clone()?);
+    let (one, other) = (Arc::try_clone(&tally)?, tally);
     let mut first = Feeder::new(
-        alloc, env.net, hosts, spools.0, 0, targets.0, start, shares.0,
+        alloc, env.net, hosts, spools.0, one, 0, targets.0, start, shares.0,
     )
     .map_err(|error| lacking(env.rt, &error))?;
     let mut second = Feeder::new(
-        alloc, env.net, others, spools.1, 1, targets.1, start, shares.1,
+        alloc, env.net, others, spools.1, other, 1, targets.1, start, shares.1,
     )
     .map_err(|error| lacking(env.rt, &error))?;
     first.is_lasting = is_lasting;
     second.is_lasting = is_lasting;
-    Ok((first, second))
+    first.drops_missing = drops_missing;
+    second.drops_missing = drops_missing;
+    let wakers = (
+        waker_of(env.rt, alloc, &resolver, &first)?,
+        waker_of(env.rt, alloc, &resolver, &second)?,
+    );
+    Ok(Feeders {
+        resolver,
+        both: (first, second),
+        wakers,
+    })
 }
 
 // A feeder's waker, by which the resolver too wakes it for each answer.

@@ -1,11 +1,12 @@
 // Feeding peers for `cli`, with the system's files, sockets and threads.
 use crate::run::{RunEnv, feed};
 use crate::targets::by_name;
-use crate::thread_runtime::ThreadRuntime;
+use crate::thread_runtime::{LoggedSystem, ThreadRuntime};
 use article_store::Folder;
 use feed_conf::Conf;
-use feed_ends::{FeedEnd, Feeds, Source};
+use feed_ends::{FeedEnd, Feeds, Listing, Source};
 use log::Log;
+use log_writer::{LogWriter, RunLog};
 use owed_list::list_owed;
 use resolver::{LookUp, SystemLookUp};
 use std::alloc::{AllocError, Global};
@@ -57,6 +58,7 @@ pub fn feed_with<
     conf: Conf,
     path: &str,
     source: Source<'_>,
+    drops_missing: bool,
     out: &mut W,
 ) -> FeedEnd {
     let env = RunEnv {
@@ -67,7 +69,7 @@ pub fn feed_with<
         look_up,
     };
     let mut end = FeedEnd::well(files.alloc());
-    if let Err(error) = feed(&env, conf, path, source, out, &mut end) {
+    if let Err(error) = feed(&env, conf, path, source, drops_missing, out, &mut end) {
         error.log_unopened(rt);
         error.add_to(&mut end);
     }
@@ -79,18 +81,39 @@ pub fn feed_with<
 pub struct SystemFeeds<'a, R, F> {
     files: &'a F,
     host: HostRuntime,
+    log: &'a RunLog,
     capability: PhantomData<R>,
 }
 
 impl<'a, R, F> SystemFeeds<'a, R, F> {
-    /// `files` opens files in this thread, `host` articles and sockets in the others; `_threads` may start threads.
-    pub fn new(_threads: &R, files: &'a F, host: HostRuntime) -> Self {
+    /// `files` opens files in this thread, `host` articles and sockets in the others; `_threads` may start threads. A
+    /// feed begins `log`, and writes to it; a list of what is owed writes to standard error itself.
+    pub fn new(_threads: &R, files: &'a F, host: HostRuntime, log: &'a RunLog) -> Self {
         SystemFeeds {
             files,
             host,
+            log,
             capability: PhantomData,
         }
     }
+}
+
+// The system of a feed. Its log has begun, if `starter` could start a thread.
+fn logged_system<M: Threads + Wait + Send + 'static>(
+    starter: &M,
+    host: HostRuntime,
+    log: &RunLog,
+) -> LoggedSystem {
+    log.begin(starter, host.alloc(), host, host.stderr());
+    LoggedSystem {
+        host,
+        log: log.writer().and_then(copied),
+    }
+}
+
+// A copy of the writer, for the threads of a run.
+fn copied(log: &LogWriter) -> Option<LogWriter> {
+    log.try_clone().ok()
 }
 
 impl<R: Threads + Wait + Send + Sync + 'static, F: AllocGlobal + Files<File = File>> Feeds
@@ -101,24 +124,38 @@ impl<R: Threads + Wait + Send + Sync + 'static, F: AllocGlobal + Files<File = Fi
         conf: Conf,
         path: &str,
         source: Source<'_>,
+        drops_missing: bool,
         verbose: bool,
         out: &mut W,
     ) -> FeedEnd {
-        let rt = ThreadRuntime::<R, HostRuntime>::new(self.host, self.host, verbose);
+        let starter = ThreadRuntime::<R, HostRuntime>::new(self.host, self.host, false);
+        let system = logged_system(&starter, self.host, self.log);
+        let rt = ThreadRuntime::<R, LoggedSystem>::new(self.host, system, verbose);
         let look_up = SystemLookUp(self.host);
-        feed_with(&rt, self.files, self.host, look_up, conf, path, source, out)
+        feed_with(
+            &rt,
+            self.files,
+            self.host,
+            look_up,
+            conf,
+            path,
+            source,
+            drops_missing,
+            out,
+        )
     }
 
     fn list_owed<W: Write>(
         &mut self,
         alloc: Global,
         conf: Conf,
+        listing: Listing,
         verbose: bool,
         out: &mut W,
     ) -> FeedEnd {
         let rt = ThreadRuntime::<R, HostRuntime>::new(self.host, self.host, verbose);
         match Vec::from_slice(alloc, conf.backlog_directory()) {
-            Ok(directory) => list_owed(&rt, self.files, &directory, &by_name(conf), out),
+            Ok(directory) => list_owed(&rt, self.files, &directory, &by_name(conf), listing, out),
             Err(_) => {
                 let mut end = FeedEnd::well(alloc);
                 end.lacks_resources = true;

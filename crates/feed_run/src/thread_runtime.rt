@@ -2,6 +2,7 @@
 use log::kv::Source;
 use log::span::Spans;
 use log::{LevelFilter, Log, Metadata, Record};
+use log_writer::LogWriter;
 use std::alloc::Global;
 use std::fmt::Display;
 use std::io;
@@ -19,18 +20,39 @@ pub trait System {
     /// The system's.
     fn time(&self) -> io::Result<Duration>;
 
-    /// Writes a line of the log, if possible.
-    fn write_log<D: Display>(&self, line: &D);
+    /// Writes a line of the log, if possible. `rt` waits for whatever the log has to wait for.
+    fn write_log<R: Wait + Clock, D: Display>(&self, rt: &R, line: &D);
 }
 
-/// The system's clock, and standard error.
+/// The system's clock, and standard error. A line waits for whoever reads standard error.
 impl System for HostRuntime {
     fn time(&self) -> io::Result<Duration> {
         self.monotonic()
     }
 
-    fn write_log<D: Display>(&self, line: &D) {
+    fn write_log<R: Wait + Clock, D: Display>(&self, _rt: &R, line: &D) {
         let _ = self.eprintln(line);
+    }
+}
+
+/// The system's clock, and a log that a thread of its own writes to standard error. Without such a thread, because none
+/// could be started, it is standard error itself.
+#[derive(Drop)]
+pub(crate) struct LoggedSystem {
+    pub host: HostRuntime,
+    pub log: Option<LogWriter>,
+}
+
+impl System for LoggedSystem {
+    fn time(&self) -> io::Result<Duration> {
+        self.host.time()
+    }
+
+    fn write_log<R: Wait + Clock, D: Display>(&self, rt: &R, line: &D) {
+        match &self.log {
+            Some(log) => log.write_line(rt, line),
+            None => self.host.write_log(rt, line),
+        }
     }
 }
 
@@ -87,14 +109,14 @@ impl<R, Y: System> Clock for ThreadRuntime<R, Y> {
     }
 }
 
-impl<R, Y: System> Log for ThreadRuntime<R, Y> {
+impl<R: Wait, Y: System> Log for ThreadRuntime<R, Y> {
     fn enabled(&self, metadata: &Metadata<'_>) -> bool {
         self.level.allows(metadata.level())
     }
 
     fn log<D: Display, K: Source, S: Spans>(&self, record: &Record<'_, D, K, S>) {
         if self.level.allows(record.level()) {
-            self.system.write_log(record.args());
+            self.system.write_log(self, record.args());
         }
     }
 

@@ -1,1 +1,3 @@
+pub mod Dropped
+pub mod Missing
 pub mod Slots

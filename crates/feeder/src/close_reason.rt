@@ -25,6 +25,8 @@ pub(crate) enum ObservedEnd {
     Unread(Option<io::Error>),
     /// The directory of the articles is not there.
     NoSpool,
+    /// The directory of the articles has none of those that were asked for.
+    NoneFound,
     /// The feeder gave it up.
     ByUs,
 }
@@ -108,6 +110,7 @@ impl Display for CloseReason<'_> {
             }
             (ObservedEnd::Unread(None), _) => f.write_str("the article cannot be read"),
             (ObservedEnd::NoSpool, _) => f.write_str("the news-spool directory is missing"),
+            (ObservedEnd::NoneFound, _) => f.write_str("news-spool has none of its articles"),
             (ObservedEnd::ByUs, _) => f.write_str("given up here"),
             (ObservedEnd::Fault(error), Some(Reason::Broken)) => write!(f, "{error}"),
             (ObservedEnd::ByPeer, Some(Reason::Broken)) => f.write_str("the peer closed it"),

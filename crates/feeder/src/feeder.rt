@@ -3,7 +3,7 @@ ghost use Rattle.std.specs.Prelude.{◌≡◌, ◌+◌, ◌-◌, ◌/◌, ◌%�
 
 use crate::peer_connection::PeerConnection;
 use crate::peer_state::PeerState;
-use crate::{FeederFault, PeerTarget, Slot, Spool, UnreadPaths};
+use crate::{FeederFault, PeerTarget, Slot, Spool, SpoolTally, UnreadPaths};
 use article_store::SpoolDirectory;
 use flusher::{FeederShare, Naming};
 use mio::{Events, Poll, Token, Waker};
@@ -12,6 +12,7 @@ use slab::Slab;
 use std::alloc::{AllocError, Global};
 use std::io;
 use std::net::Net;
+use std::sync::Arc;
 use std::time::Instant;
 
 const BUFFER_OCTETS: usize = 65_536;
@@ -36,10 +37,19 @@ pub struct Feeder<S: SpoolDirectory + Drop, C: Net + Drop, N: Naming> {
     /// it is no failure if a peer closes one that has held nothing for some seconds, and no peer is given up if the
     /// spool is missing.
     pub is_lasting: bool,
+    /// Whether each article that is missing is dropped. If not, one whose token is one of INN's storage API is put off
+    /// until an article of the run was found.
+    pub drops_missing: bool,
     pub(crate) alloc: Global,
     pub(crate) net: C,
     pub(crate) hosts: Resolver,
     pub(crate) spool: Spool<S>,
+    // What it shares with the other feeder about the spool.
+    pub(crate) tally: Arc<SpoolTally>,
+    // It has seen that an article of the run was found.
+    pub(crate) has_found: bool,
+    // The second in which it logged last what was dropped.
+    pub(crate) drops_logged: u64,
     pub(crate) start: Instant,
     pub(crate) which: u8,
     pub(crate) peers: Vec<PeerState>,
@@ -67,8 +77,8 @@ pub struct Feeder<S: SpoolDirectory + Drop, C: Net + Drop, N: Naming> {
 
 impl<S: SpoolDirectory + Drop, C: Net + Drop, N: Naming> Feeder<S, C, N> {
     /// The first feeder (`which` is 0) or the second (1): it has connection k of each peer if k mod 2 is `which`.
-    /// Articles come from `spool`; `start` is the time 0 of all threads, `net` the capability to open sockets, and
-    /// `hosts` looks up the peers' hosts.
+    /// Articles come from `spool`, about which the two feeders share `tally`; `start` is the time 0 of all threads,
+    /// `net` the capability to open sockets, and `hosts` looks up the peers' hosts.
     ///
     /// # Errors
     /// The system's, if no poll can be made; memory was refused.
@@ -77,6 +87,7 @@ impl<S: SpoolDirectory + Drop, C: Net + Drop, N: Naming> Feeder<S, C, N> {
         net: C,
         hosts: Resolver,
         spool: Spool<S>,
+        tally: Arc<SpoolTally>,
         which: u8,
         targets: Vec<PeerTarget>,
         start: Instant,
@@ -95,10 +106,14 @@ impl<S: SpoolDirectory + Drop, C: Net + Drop, N: Naming> Feeder<S, C, N> {
             fault: None,
             unread: UnreadPaths::new(alloc),
             is_lasting: false,
+            drops_missing: false,
             alloc,
             net,
             hosts,
             spool,
+            tally,
+            has_found: false,
+            drops_logged: 0,
             start,
             which,
             peers,

@@ -1,8 +1,11 @@
 // A feeder's turns, until its work is done.
+ghost use Rattle.std.specs.Prelude.{◌≡◌, ◌-◌, nat_le};
+
 use crate::feeder::{EVENTS_MAX, WAKER_TOKEN};
 use crate::logging::{
-    log_connected, log_deferred, log_given_up, log_over, log_refused, log_stopped, name_of,
+    log_connected, log_deferred, log_given_up, log_over, log_refused, log_stopped, name_of, text_of,
 };
+use crate::missing::{due_at, kept_until};
 use crate::peer_connection::PeerConnection;
 use crate::post_view::{PostView, is_of_tape};
 use crate::service::{ServiceEnv, service};
@@ -17,6 +20,9 @@ use log::Log;
 use std::net::Net;
 use std::rt::Clock;
 use std::sync::Wait;
+
+// How often what was dropped is logged in a run that goes on until it is ended.
+const DROPS_PERIOD_SECONDS: u64 = 3_600;
 
 // How long what is held may wait for replies if the run is to end in good order.
 const DRAINING_MAX_SECONDS: u64 = 10;
@@ -88,13 +94,18 @@ impl<S: SpoolDirectory + Drop, C: Net + Drop, N: Naming> Feeder<S, C, N> {
         unreachable!()
     }
 
-    // Keeps the times at which the last phase began and the run was asked to end.
+    // Keeps the times at which the last phase began and the run was asked to end. Once it sees that an article was
+    // found, each connection is serviced: what was put off as missing may be offered again.
     fn read_signals(&mut self, signals: &Signals, now: u64) {
         if signals.is_last_phase() {
             self.last_phase_since = self.last_phase_since.or(Some(now));
         }
         if signals.is_draining() {
             self.draining_since = self.draining_since.or(Some(now));
+        }
+        if !self.has_found && self.tally.has_found() {
+            self.has_found = true;
+            self.mark_all_dirty();
         }
     }
 
@@ -121,7 +132,8 @@ impl<S: SpoolDirectory + Drop, C: Net + Drop, N: Naming> Feeder<S, C, N> {
             pace,
             who: Who::Feeder(self.which),
             now,
-            due: self.last_phase_since.unwrap_or(now),
+            due: due_at(now, self.last_phase_since, self.has_found),
+            kept_until: kept_until(now, self.last_phase_since),
             claims: self.draining_since.is_none(),
             waits,
         }
@@ -141,8 +153,12 @@ impl<S: SpoolDirectory + Drop, C: Net + Drop, N: Naming> Feeder<S, C, N> {
         Ok(())
     }
 
-    // If a second has passed, ticks each connection, and has the slots checked.
-    fn pass_second<D: Disk, R: Log, P: Pace>(&mut self, rt: &R, view: &PostView<'_, D, N, P>) {
+    // If a second has passed, ticks each connection, has the slots checked, and logs what was dropped if that is due.
+    fn pass_second<D: Disk, R: Wait + Log, P: Pace>(
+        &mut self,
+        rt: &R,
+        view: &PostView<'_, D, N, P>,
+    ) {
         if self.ticked == Some(view.now) {
             return;
         }
@@ -151,6 +167,20 @@ impl<S: SpoolDirectory + Drop, C: Net + Drop, N: Naming> Feeder<S, C, N> {
         for key in 0..self.connections.capacity() {
             self.tick_one(rt, view, key);
         }
+        if self.is_lasting && self.which == 0 && is_log_due(self.drops_logged, view.now) {
+            self.drops_logged = view.now;
+            self.log_drops(rt);
+        }
+    }
+
+    // Logs what was dropped for each peer since this was logged last, and that no article was found, if some were
+    // missing. One feeder does it for both.
+    fn log_drops<R: Wait + Log>(&self, rt: &R) {
+        for at in 0..self.peers.len() {
+            let target = &self.peers[at].target;
+            self.tally.log_peer(rt, target.peer, text_of(&target.name));
+        }
+        self.tally.log_none_found(rt);
     }
 
     // Ticks a connection, and logs what was deferred on it. One that has been idle for long is left, and no longer
@@ -209,6 +239,8 @@ impl<S: SpoolDirectory + Drop, C: Net + Drop, N: Naming> Feeder<S, C, N> {
         let mut env = ServiceEnv {
             peer,
             spool: &mut self.spool,
+            tally: &self.tally,
+            drops_missing: self.drops_missing,
             buffer: &mut self.buffer,
             share: &mut self.share,
             unread: &mut self.unread,
@@ -351,12 +383,13 @@ impl<S: SpoolDirectory + Drop, C: Net + Drop, N: Naming> Feeder<S, C, N> {
         }
     }
 
-    // Whether no debt of its peers is ready or held, or could still be sent by this feeder.
+    // Whether no debt of its peers is ready or held, or could still be sent by this feeder. A connection that is to be
+    // serviced may claim one that has waited.
     fn is_done<D: Disk, P: Pace>(&self, view: &PostView<'_, D, N, P>) -> Result<bool, FeederFault> {
         if self
             .connections
             .iter()
-            .any(|(_, connection)| connection.holds_debts())
+            .any(|(_, one)| one.holds_debts() || one.needs_service())
         {
             return Ok(false);
         }
@@ -451,4 +484,11 @@ impl<S: SpoolDirectory + Drop, C: Net + Drop, N: Naming> Feeder<S, C, N> {
             }
         }
     }
+}
+
+// Whether what was dropped is to be logged now, if it was logged last at this earlier second.
+fn is_log_due(logged: u64, now: u64) -> bool
+    ensures { result ≡ nat_le 3600 (now - logged) }
+{
+    now.saturating_sub(logged) >= DROPS_PERIOD_SECONDS
 }

@@ -2,18 +2,20 @@
 //!
 //! May touch sockets, the clock, a store of articles, the resolver, and the stations of a post, and wait for their
 //! locks.
-//! The crates above make a [`Feeder`] for each thread and run it as a [`flusher::Work`]; connection k of each peer
-//! belongs to feeder k mod 2. What is decided apart from sockets has contracts: when a slot is tried again ([`Slot`]),
-//! at which address ([`PeerTarget`]), and how long a feeder sleeps. Connections and links have theirs in `conn_core`
-//! and `event_loop`.
+//! The crates above make a [`Feeder`] for each thread, which share a [`SpoolTally`], and run it as a
+//! [`flusher::Work`]; connection k of each peer belongs to feeder k mod 2. What is decided apart from sockets has
+//! contracts: when a slot is tried again ([`Slot`]), at which address ([`PeerTarget`]), how long a feeder sleeps, and
+//! which missing article is dropped. Connections and links have theirs in `conn_core` and `event_loop`.
 #![tactic(auto)]
 
 mod close_reason;
 mod connecting;
+mod drop_count;
 mod fault;
 mod feeder;
 mod feeder_turns;
 mod logging;
+mod missing;
 mod peer_connection;
 mod peer_state;
 mod post_view;
@@ -22,6 +24,7 @@ mod setbacks;
 mod shutdown;
 mod slot;
 mod spool;
+mod spool_tally;
 mod target;
 mod unread_paths;
 mod uptime;
@@ -31,5 +34,6 @@ pub use fault::FeederFault;
 pub use feeder::Feeder;
 pub use slot::Slot;
 pub use spool::Spool;
+pub use spool_tally::SpoolTally;
 pub use target::PeerTarget;
 pub use unread_paths::UnreadPaths;

@@ -1,10 +1,13 @@
 // What a feeder logs of its connections.
 use crate::close_reason::CloseReason;
+use crate::drop_count::{DropCount, DroppedArticle, PeerDrops};
 use crate::peer_connection::PeerConnection;
 use crate::peer_state::PeerState;
+use article_store::Unsendable;
 use conn_core::{Mode, Reason};
 use funnel::{PeerName, Token};
 use log::{Log, info, warn};
+use std::fmt::{self, Display, Formatter, Write};
 use std::net::SocketAddr;
 use std::{io, str};
 
@@ -102,10 +105,91 @@ pub(crate) fn log_deferred<R: Log>(rt: &R, name: &str, count: u64) {
     }
 }
 
-/// The article under a token is dropped.
-pub(crate) fn log_unsent<R: Log>(rt: &R, token: &Token, why: &str) {
-    info!(rt; "article {}: {}", token_text(token), why);
+/// The article under a token is missing, and put off.
+pub(crate) fn log_kept<R: Log>(rt: &R, token: &Token) {
+    info!(rt; "article {}: not found in the spool; put off", token_text(token));
 }
+
+/// An article that was missing was dropped.
+pub(crate) fn log_missing<R: Log>(rt: &R, article: &DroppedArticle) {
+    info!(rt; "article {}: not found in the spool; dropped", token_text(&article.token));
+}
+
+/// An article that cannot be sent was dropped.
+pub(crate) fn log_unsendable<R: Log>(rt: &R, article: &DroppedArticle) {
+    let token = token_text(&article.token);
+    match article.fault {
+        Some(fault) => {
+            info!(rt; "article {}: cannot be sent ({}); dropped", token, words_of(fault))
+        }
+        None => info!(rt; "article {}: cannot be sent; dropped", token),
+    }
+}
+
+/// How many articles of a peer were dropped because they were not in the spool, and how many because they cannot be
+/// sent: a line for each number that is not 0.
+pub(crate) fn log_drops<R: Log>(rt: &R, name: &str, drops: &PeerDrops) {
+    let (missing, unsendable) = (&drops.missing, &drops.unsendable);
+    match missing.count {
+        0 => {}
+        1 => warn!(rt; "{}: 1 article was not in the spool{}", name, First(missing)),
+        count => warn!(rt; "{}: {} articles were not in the spool{}", name, count, First(missing)),
+    }
+    match unsendable.count {
+        0 => {}
+        1 => warn!(rt; "{}: 1 article cannot be sent{}", name, First(unsendable)),
+        count => warn!(rt; "{}: {} articles cannot be sent{}", name, count, First(unsendable)),
+    }
+}
+
+// The first of these articles, after what is said of their number. Nothing if memory was refused for its words.
+#[derive(Clone, Copy)]
+struct First<'a>(&'a DropCount);
+
+impl Display for First<'_> {
+    fn fmt<W: Write>(&self, f: &mut Formatter<W>) -> fmt::Result {
+        let Some(first) = &self.0.first else {
+            return Ok(());
+        };
+        f.write_str(if self.0.count == 1 {
+            ": "
+        } else {
+            ", the first "
+        })?;
+        let id = str::from_utf8(first.id.bytes()).unwrap_or("");
+        write!(f, "{} {}", token_text(&first.token), id)?;
+        match first.fault {
+            Some(fault) => write!(f, " ({})", words_of(fault)),
+            None => Ok(()),
+        }
+    }
+}
+
+// Why an article cannot be sent.
+fn words_of(fault: Unsendable) -> &'static str {
+    match fault {
+        Unsendable::Empty => "empty",
+        Unsendable::BareCr => "bare CR",
+        Unsendable::Nul => "NUL octet",
+        Unsendable::TooLong => "above 16777216 octets",
+    }
+}
+
+/// So many articles, at most 20, were missing from the spool at this path, none was found, and they are put off.
+pub(crate) fn log_none_found<R: Log>(rt: &R, path: &str, count: usize) {
+    match count {
+        1 => warn!(
+            rt; "{} does not have the article asked for, which is put off{}", path, CURE
+        ),
+        _ => warn!(
+            rt; "{} has none of the {} articles asked for, which are put off{}", path, count, CURE
+        ),
+    }
+}
+
+// What to do about a spool in which no article was found.
+const CURE: &str =
+    ": news-spool has to be the directory of the copies, not innd's spool; --expired drops what is missing";
 
 /// The article under a token can't be read from its file in the spool at this path.
 pub(crate) fn log_unread<R: Log>(rt: &R, spool: &str, token: &Token, reason: Option<&io::Error>) {

@@ -3,11 +3,12 @@ ghost use Rattle.std.specs.Prelude.{◌≡◌, ◌<◌, ◌≤◌, ◌/◌};
 
 use crate::Spool;
 use crate::close_reason::{CloseReason, ObservedEnd, SessionStage};
-use crate::logging::{log_unread, log_unsent};
+use crate::logging::log_unread;
 use crate::peer_state::PeerState;
 use crate::setbacks::Failure;
+use crate::spool_tally::SpoolRule;
 use crate::unread_paths::UnreadPaths;
-use article_store::{Found, SpoolDirectory, StoreFault};
+use article_store::{Found, SpoolDirectory, StoreFault, Unsendable};
 use conn_core::{Conn, CxnId, Mode, Outcome, Ready, Reason};
 use event_loop::{Moved, SocketLink, put_out, take_in};
 use ledger_core::{Debt, Key};
@@ -76,6 +77,8 @@ pub(crate) struct PeerConnection {
     ended: ObservedEnd,
     // The key of the debt whose article could not be read.
     unread: Option<Key>,
+    // Why articles cannot be sent that were handed in, until their debts are settled.
+    unsendable: Vec<(Key, Unsendable)>,
     // Whether a debt is to be put off was decided.
     is_judged: bool,
     postponed: Option<Postponed>,
@@ -117,6 +120,7 @@ impl PeerConnection {
             is_left: false,
             ended: ObservedEnd::Unseen,
             unread: None,
+            unsendable: Vec::new(alloc),
             is_judged: false,
             postponed: None,
             is_dirty: false,
@@ -472,11 +476,22 @@ impl PeerConnection {
         }
     }
 
-    /// Whether it failed at a debt and not because of its host: its peer had answered a command about a debt as it
-    /// should.
+    /// Whether it failed at a debt and not because of its host or the spool: its peer had answered a command about a
+    /// debt as it should.
     pub fn is_failed_at_debt(&self) -> bool {
         let is_at_debt = matches!(self.suspect(), Some((_, Failure::AtDebt)));
-        is_at_debt && self.conn.has_answered()
+        is_at_debt && !self.is_without_spool() && self.conn.has_answered()
+    }
+
+    /// Whether it was broken because the spool has none of its articles.
+    pub fn is_without_spool(&self) -> bool {
+        matches!(self.ended, ObservedEnd::NoneFound)
+    }
+
+    /// Why the article of this debt cannot be sent, if that is known. It is told once.
+    pub fn take_fault(&mut self, key: Key) -> Option<Unsendable> {
+        let at = self.unsendable.iter().position(|one| one.0 == key)?;
+        Some(self.unsendable.swap_remove(at).1)
     }
 
     pub fn close_reason(&self) -> CloseReason<'_> {
@@ -498,18 +513,19 @@ impl PeerConnection {
 
     /// Hands in the articles that are wanted, until there is enough output, half a window of articles at most: so the
     /// peer works on one half while the other is read. It closes if one can't be read. Returns false if the spool is
-    /// missing: then none is handed in.
+    /// missing, or counts as missing: then none is handed in.
     pub fn hand_in<R: Log, S: SpoolDirectory>(
         &mut self,
         rt: &R,
         spool: &mut Spool<S>,
+        rule: SpoolRule<'_>,
         unread: &mut UnreadPaths,
     ) -> bool {
         for _ in 0..half_of(self.owner.room) {
             if self.conn.output().len() >= OUTPUT_ENOUGH_OCTETS {
                 return true;
             }
-            match self.hand(rt, spool, unread) {
+            match self.hand(rt, spool, rule, unread) {
                 HandInResult::None => return true,
                 HandInResult::One => {}
                 HandInResult::OutOfReach => return false,
@@ -523,6 +539,7 @@ impl PeerConnection {
         &mut self,
         rt: &R,
         spool: &mut Spool<S>,
+        rule: SpoolRule<'_>,
         unread: &mut UnreadPaths,
     ) -> HandInResult {
         let Some(debt) = self.conn.wanted() else {
@@ -532,24 +549,15 @@ impl PeerConnection {
         match spool.store.fetch(debt.token()) {
             Ok(Found::Gone) if !spool.store.is_there() => {
                 unread.add(self.alloc, &spool.path, None);
-                self.end(ObservedEnd::NoSpool);
-                self.conn.broken();
-                return HandInResult::OutOfReach;
+                return self.break_for_spool(ObservedEnd::NoSpool);
+            }
+            Ok(Found::Gone) if rule.is_out_of_reach(debt.token()) => {
+                unread.add(self.alloc, &spool.path, None);
+                self.unread = Some(key);
+                return self.break_for_spool(ObservedEnd::NoneFound);
             }
             Ok(found) => {
-                match &found {
-                    Found::Article(_) => {}
-                    Found::Gone => {
-                        log_unsent(rt, debt.token(), "not found in the spool; dropped")
-                    }
-                    Found::Unsendable => {
-                        log_unsent(
-                            rt,
-                            debt.token(),
-                            "cannot be sent (empty, too long, NUL or bare CR); dropped",
-                        )
-                    }
-                }
+                self.note_found(key, &found, &mut spool.store, rule);
                 if self.conn.article(key, found).is_ok() {
                     return HandInResult::One;
                 }
@@ -565,6 +573,33 @@ impl PeerConnection {
         }
         self.conn.broken();
         HandInResult::None
+    }
+
+    // Breaks it, because the spool is missing or counts as missing.
+    fn break_for_spool(&mut self, ended: ObservedEnd) -> HandInResult {
+        self.end(ended);
+        self.conn.broken();
+        HandInResult::OutOfReach
+    }
+
+    // Notes what is to be known of the article of this debt: that one was found, or why it cannot be sent. If memory is
+    // refused for that, the reason is not known.
+    fn note_found<S: SpoolDirectory>(
+        &mut self,
+        key: Key,
+        found: &Found,
+        store: &mut S,
+        rule: SpoolRule<'_>,
+    ) {
+        match found {
+            Found::Article(_) => rule.tally.set_found(),
+            Found::Gone => {}
+            Found::Unsendable => {
+                if let Some(fault) = store.take_cause() {
+                    let _ = self.unsendable.push((key, fault));
+                }
+            }
+        }
     }
 }
 

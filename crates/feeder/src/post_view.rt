@@ -16,9 +16,10 @@ pub(crate) struct PostView<'a, D: Disk, N: Naming, P: Pace> {
     pub who: Who,
     /// The time, in seconds since the run began.
     pub now: u64,
-    /// Debts that wait up to this time are offered. In the last phase it is the time at which the phase began, so that
-    /// what is deferred in the phase is not offered again in it.
+    /// Debts that wait up to this time are offered ([`due_at`](crate::missing::due_at)).
     pub due: u64,
+    /// Until when a missing article that is kept is put off.
+    pub kept_until: u64,
     /// Whether debts are claimed: not if the run is to end.
     pub claims: bool,
     /// Whether `put_off` and `release` wait for a front that is in use; otherwise they are refused. `claim`, `finish`

@@ -1,16 +1,21 @@
 // Servicing one connection: what came is taken in, what became of debts goes to the station, and more is sent.
-use crate::logging::{log_postponed, text_of};
+ghost use Rattle.std.specs.Prelude.{◌≡◌, IfOk};
+
+use crate::drop_count::DroppedArticle;
+use crate::logging::{log_kept, log_missing, log_postponed, log_unsendable, text_of};
+use crate::missing::{Step, step_of};
 use crate::peer_connection::PeerConnection;
 use crate::peer_state::PeerState;
 use crate::post_view::{PostView, is_busy, is_full};
+use crate::spool_tally::SpoolRule;
 use crate::unread_paths::UnreadPaths;
-use crate::{FeederFault, Spool};
+use crate::{FeederFault, Spool, SpoolTally};
 use article_store::SpoolDirectory;
 use conn_core::Outcome;
 use disk_model::Disk;
 use flusher::{FeederShare, Naming, Pace};
-use funnel::Token;
-use ledger_core::Debt;
+use funnel::{MsgId, PeerName, Token};
+use ledger_core::{Cause, Debt};
 use log::Log;
 use peer_queue::key_in;
 use std::alloc::AllocError;
@@ -28,6 +33,9 @@ pub(crate) struct ServiceEnv<'a, S, N: Naming> {
     /// The peer of the connection.
     pub peer: &'a mut PeerState,
     pub spool: &'a mut Spool<S>,
+    pub tally: &'a SpoolTally,
+    /// Whether all articles that are missing are dropped ([`SpoolRule`]).
+    pub drops_missing: bool,
     pub buffer: &'a mut [u8],
     pub share: &'a mut FeederShare<N>,
     pub unread: &'a mut UnreadPaths,
@@ -46,14 +54,19 @@ pub(crate) fn service<D: Disk, N: Naming, S: SpoolDirectory, R: Wait + Log, P: P
     view: &PostView<'_, D, N, P>,
     env: &mut ServiceEnv<'_, S, N>,
 ) -> Result<(), FeederFault> {
+    let rule = SpoolRule {
+        tally: env.tally,
+        drops_missing: env.drops_missing,
+        is_lasting: !env.gives_up,
+    };
     connection.clear_marks();
     connection.receive(env.buffer);
-    settle(connection, rt, view, env.peer, env.share)?;
+    settle(connection, rt, view, env.peer, rule, env.share)?;
     if connection.has_kept_outcome() {
         let _ = connection.send();
     } else {
-        fill_and_send(connection, rt, view, env)?;
-        settle(connection, rt, view, env.peer, env.share)?;
+        fill_and_send(connection, rt, view, rule, env)?;
+        settle(connection, rt, view, env.peer, rule, env.share)?;
     }
     Ok(())
 }
@@ -68,6 +81,7 @@ pub(crate) fn settle<D: Disk, N: Naming, R: Wait + Log, P: Pace>(
     rt: &R,
     view: &PostView<'_, D, N, P>,
     peer: &mut PeerState,
+    rule: SpoolRule<'_>,
     share: &mut FeederShare<N>,
 ) -> Result<(), FeederFault> {
     connection.judge(peer, view.now);
@@ -75,7 +89,9 @@ pub(crate) fn settle<D: Disk, N: Naming, R: Wait + Log, P: Pace>(
         let Some(outcome) = connection.next_outcome() else {
             return Ok(());
         };
-        if let Err((outcome, fault)) = settle_one(connection, rt, view, peer, share, outcome) {
+        if let Err((outcome, fault)) = settle_one(
+            connection, rt, view, peer, rule, share, outcome,
+        ) {
             connection.keep(outcome);
             return retry_later(connection, fault);
         }
@@ -83,27 +99,104 @@ pub(crate) fn settle<D: Disk, N: Naming, R: Wait + Log, P: Pace>(
     Ok(())
 }
 
-// Takes an outcome to the station. The debt at which the connection failed is put off.
+// Takes an outcome to the station. The debt at which the connection failed is put off, and so is one whose article is
+// missing and kept.
 fn settle_one<D: Disk, N: Naming, R: Wait + Log, P: Pace>(
-    connection: &PeerConnection,
+    connection: &mut PeerConnection,
     rt: &R,
     view: &PostView<'_, D, N, P>,
     peer: &mut PeerState,
+    rule: SpoolRule<'_>,
     share: &mut FeederShare<N>,
     outcome: Outcome,
 ) -> Result<(), (Outcome, FeederFault)> {
     let postponed = connection.postponed(&outcome);
-    match (outcome, postponed) {
-        (Outcome::Back(debt), Some(until)) => put_off(connection, rt, view, peer, debt, until),
-        (outcome, _) => {
+    match step_of(
+        outcome,
+        postponed,
+        rule.tally.has_found(),
+        rule.drops_missing,
+    ) {
+        Step::PutOff { debt, until } => put_off(connection, rt, view, peer, debt, until),
+        Step::Keep(debt) => keep(connection, rt, view, rule, debt),
+        Step::Finish(Outcome::Lost(debt, cause)) => {
+            let key = debt.key();
+            lose(connection, rt, view, rule, share, debt, cause)?;
+            peer.setbacks.forget(key);
+            Ok(())
+        }
+        Step::Finish(outcome) => {
             let key = key_in(&outcome);
-            let is_end = matches!(outcome, Outcome::Final(_) | Outcome::Lost(_, _));
+            let is_end = matches!(outcome, Outcome::Final(_));
             view.finish(rt, connection.peer(), connection.id(), outcome, share)?;
             if is_end {
                 peer.setbacks.forget(key);
             }
             Ok(())
         }
+    }
+}
+
+// Drops a debt whose article is missing or cannot be sent, logs that, and counts it.
+fn lose<D: Disk, N: Naming, R: Wait + Log, P: Pace>(
+    connection: &mut PeerConnection,
+    rt: &R,
+    view: &PostView<'_, D, N, P>,
+    rule: SpoolRule<'_>,
+    share: &mut FeederShare<N>,
+    debt: Debt,
+    cause: Cause,
+) -> Result<(), (Outcome, FeederFault)> {
+    let key = debt.key();
+    let texts = texts_of(&debt);
+    let outcome = Outcome::Lost(debt, cause);
+    view.finish(rt, connection.peer(), connection.id(), outcome, share)?;
+    let fault = connection.take_fault(key);
+    let article = match texts {
+        Ok((token, id)) => Some(DroppedArticle { token, id, fault }),
+        Err(_) => None,
+    };
+    if let Some(article) = &article {
+        match cause {
+            Cause::Missing => log_missing(rt, article),
+            _ => log_unsendable(rt, article),
+        }
+    }
+    rule.tally.add_drop(rt, connection.peer(), cause, article);
+    Ok(())
+}
+
+// A copy of a debt's token and message-id.
+fn texts_of(debt: &Debt) -> Result<(Token, MsgId), AllocError>
+    ensures { IfOk result (λ texts. (texts.0 ≡ debt.now.1.0) × (texts.1 ≡ debt.now.1.1)) }
+{
+    Ok((debt.token().clone()?, debt.id().clone()?))
+}
+
+// Puts off a debt whose article is missing and kept.
+fn keep<D: Disk, N: Naming, R: Wait + Log, P: Pace>(
+    connection: &PeerConnection,
+    rt: &R,
+    view: &PostView<'_, D, N, P>,
+    rule: SpoolRule<'_>,
+    debt: Debt,
+) -> Result<(), (Outcome, FeederFault)> {
+    let token: Result<Token, AllocError> = debt.token().clone();
+    match view.put_off(
+        rt,
+        connection.peer(),
+        connection.id(),
+        debt,
+        view.kept_until,
+    ) {
+        Ok(()) => {
+            if let Ok(token) = token {
+                log_kept(rt, &token);
+                rule.tally.add_missing(rt, &token);
+            }
+            Ok(())
+        }
+        Err((debt, fault)) => Err((Outcome::Lost(debt, Cause::Missing), fault)),
     }
 }
 
@@ -120,16 +213,20 @@ fn put_off<D: Disk, N: Naming, R: Wait + Log, P: Pace>(
     match view.put_off(rt, connection.peer(), connection.id(), debt, until) {
         Ok(()) => {
             if let Ok(token) = token {
-                log_postponed(
-                    rt,
-                    text_of(&peer.target.name),
-                    &token,
-                    connection.close_reason(),
-                );
+                log_put_off(connection, rt, &peer.target.name, &token);
             }
             Ok(())
         }
         Err((debt, fault)) => Err((Outcome::Back(debt), fault)),
+    }
+}
+
+// The article under this token was put off after the connection closed.
+fn log_put_off<R: Log>(connection: &PeerConnection, rt: &R, name: &PeerName, token: &Token) {
+    if connection.is_without_spool() {
+        log_kept(rt, token);
+    } else {
+        log_postponed(rt, text_of(name), token, connection.close_reason());
     }
 }
 
@@ -148,6 +245,7 @@ fn fill_and_send<D: Disk, N: Naming, S: SpoolDirectory, R: Wait + Log, P: Pace>(
     connection: &mut PeerConnection,
     rt: &R,
     view: &PostView<'_, D, N, P>,
+    rule: SpoolRule<'_>,
     env: &mut ServiceEnv<'_, S, N>,
 ) -> Result<(), FeederFault> {
     let mut sent = 0u64;
@@ -155,7 +253,7 @@ fn fill_and_send<D: Disk, N: Naming, S: SpoolDirectory, R: Wait + Log, P: Pace>(
         if !env.peer.is_closed {
             offer(connection, rt, view)?;
         }
-        if !connection.hand_in(rt, env.spool, env.unread) {
+        if !connection.hand_in(rt, env.spool, rule, env.unread) {
             env.peer.is_closed = env.gives_up;
         }
         sent = sent.saturating_add(connection.send());

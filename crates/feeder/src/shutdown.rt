@@ -1,6 +1,7 @@
 // The end of a feeder's work.
 use crate::post_view::PostView;
 use crate::service::settle;
+use crate::spool_tally::SpoolRule;
 use crate::uptime::Uptime;
 use crate::{Feeder, FeederFault};
 use article_store::SpoolDirectory;
@@ -18,6 +19,7 @@ const GOODBYE_SLEEP_MAX_MS: u64 = 50;
 
 impl<S: SpoolDirectory + Drop, C: Net + Drop, N: Naming> Feeder<S, C, N> {
     /// Ends all connections in good order, as far as their peers answer within a second. What is still held goes back.
+    /// If articles were missing and none was found, the last feeder has the spool among what could not be read.
     pub(crate) fn shut_down<D: Disk, R: Wait + Clock + Log, P: Pace>(
         &mut self,
         rt: &R,
@@ -29,6 +31,9 @@ impl<S: SpoolDirectory + Drop, C: Net + Drop, N: Naming> Feeder<S, C, N> {
         self.leave_all();
         let _ = self.await_goodbyes(rt, &view, signals);
         self.break_all(rt, &view);
+        if self.tally.end() && self.tally.missing(rt) > 0 {
+            self.unread.add(self.alloc, &self.spool.path, None);
+        }
     }
 
     // Asks each peer to end its connections.
@@ -84,7 +89,12 @@ impl<S: SpoolDirectory + Drop, C: Net + Drop, N: Naming> Feeder<S, C, N> {
         if let Some(slot) = self.slots.get(connection.slot())
             && let Some(peer) = self.peers.get_mut(slot.target())
         {
-            let _ = settle(connection, rt, view, peer, &mut self.share);
+            let rule = SpoolRule {
+                tally: &self.tally,
+                drops_missing: self.drops_missing,
+                is_lasting: self.is_lasting,
+            };
+            let _ = settle(connection, rt, view, peer, rule, &mut self.share);
         }
     }
 }

@@ -96,7 +96,7 @@ impl<N: Naming> Flusher<N> {
                 }
                 _ => post.flush_working(rt, pace),
             };
-            self.meet(rt, signals, flushed)?;
+            self.meet(signals, flushed)?;
             let Some(orders) = next else {
                 return Ok(());
             };
@@ -105,22 +105,14 @@ impl<N: Naming> Flusher<N> {
         unreachable!()
     }
 
-    // Goes on after a tape's fault. The first is kept; a later one is logged.
-    fn meet<R: Log>(
-        &mut self,
-        rt: &R,
-        signals: &Signals,
-        flushed: Result<(), PostFault>,
-    ) -> Result<(), PostFault>
+    // Goes on after a tape's fault, of which the first is kept.
+    fn meet(&mut self, signals: &Signals, flushed: Result<(), PostFault>) -> Result<(), PostFault>
         ensures goes_on { OnOk result (IfErr flushed IsOfTape) }
         ensures ends { IfErr result (λ fault. flushed ≡ Err fault × (IsOfTape fault → ⊥)) }
     {
         if let Err(fault) = flushed {
             if !fault.is_of_tape() {
                 return Err(fault);
-            }
-            if self.fault.is_some() {
-                info!(rt; "a further fault: {fault}");
             }
             self.keep(fault);
             signals.lose_tape();

@@ -1,2 +1,3 @@
+mod HeldOnes
 mod Passes
 mod Rests

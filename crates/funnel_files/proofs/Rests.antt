@@ -1,5 +1,5 @@
 -- Whether a rest without LF is left.
-use Rattle.std.specs.Prelude.{◌≡◌, ◌≢◌, ◌==◌, ◌<◌, ℕ, Bool, false, true, not, List, [], ◌∷◌, ◌++◌, fold, length, nat_lt, refl}
+use Rattle.std.specs.Prelude.{◌≡◌, ◌≢◌, ◌==◌, ℕ, Bool, false, true, not, List, [], ◌∷◌, ◌++◌, length, nat_lt, refl}
 use Rattle.std.proofs.Common.{ap, sym, ◌∙◌, arith}
 use Rattle.std.proofs.lemmas.Bool.{ne_eqb}
 use Rattle.std.proofs.lemmas.Grind.{common_steps}

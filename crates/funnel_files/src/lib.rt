@@ -7,8 +7,10 @@
 #![tactic(auto)]
 
 mod fault;
+mod held_names;
 mod line_file;
 mod lines;
+mod listing_pace;
 mod plain;
 mod position;
 mod segment;

@@ -82,7 +82,7 @@ impl<'a, F: AllocGlobal + Files<File = File>> Funnel<'a, F> {
     pub fn next<R: Clock>(&mut self, rt: &R) -> Result<Next, FunnelFault> {
         match &mut self.lines {
             Lines::File(file) => Ok(file.next(rt)?),
-            Lines::Directory(segments) => segments.next(),
+            Lines::Directory(segments) => segments.next(rt),
         }
     }
 

@@ -1,6 +1,6 @@
 // The position in the segments at which a funnel is read, and whether they fit together.
-ghost use Rattle.std.specs.Prelude.{◌≡◌, ◌↔◌, ◌<◌, ◌≤◌, ◌+◌, ◌^◌, ℕ, true, false};
-ghost use Rattle.std.specs.Prelude.{IfOk, IfSome, IsErrOf, None, OnErr, OnOk, Some};
+ghost use Rattle.std.specs.Prelude.{◌≡◌, ◌↔◌, ◌⊎◌, ◌<◌, ◌≤◌, ◌+◌, ◌^◌, ℕ};
+ghost use Rattle.std.specs.Prelude.{IfNone, IfOk, IfSome, IsErrOf, None, OnErr, OnOk, Some, false, true};
 
 use thiserror::Error;
 
@@ -46,6 +46,20 @@ impl Position {
         ensures { result ≡ self.now.segment }
     {
         self.segment
+    }
+
+    /// The segment that comes next once this one is complete: it is named by the number after the last line. `None`
+    /// if this one has no line, or its last line has the greatest number.
+    pub fn awaited(&self) -> Option<u64>
+        ensures some { IfSome result (λ next. (next ≡ self.now.last + 1)
+            × (self.now.segment ≤ self.now.last)) }
+        ensures none { IfNone result ((self.now.last < self.now.segment)
+            ⊎ (self.now.last + 1 ≡ 2 ^ 64)) }
+    {
+        if self.last < self.segment {
+            return None;
+        }
+        self.last.checked_add(1)
     }
 
     /// The segment is complete, because there is a next one, which begins with this line.

@@ -3,7 +3,7 @@ use crate::fault::FunnelFault;
 use crate::line_file::{LineFile, SkipFault};
 use crate::position::{Misfit, Position};
 use crate::segment_directory::SegmentDirectory;
-use segments::{SegmentPlace, Segments};
+use segments::SegmentPlace;
 use std::fs::File;
 use std::io;
 use std::rt::Files;
@@ -18,21 +18,20 @@ pub(crate) struct OpenSegment {
 }
 
 impl OpenSegment {
-    /// Opens the segment at this place, which is one of these, after the lines up to this mark.
+    /// Opens the segment at this place, after the lines up to this mark; `next` is the segment after it, if there is
+    /// one. Its name is not made durable.
     ///
     /// # Errors
     /// `NoFile`; if it does not have all lines up to the mark, `Gap` if there is a next segment and `Short` if not;
     /// the system's error.
     pub fn open<F: AllocGlobal + Files<File = File>>(
         directory: &SegmentDirectory<'_, F>,
-        segments: &Segments,
         place: SegmentPlace,
+        next: Option<u64>,
         mark: u64,
     ) -> Result<Self, FunnelFault> {
         let segment = place.first;
-        let next = segments.after(segment);
         let mut lines = LineFile::new(directory.files.alloc(), directory.open(segment)?)?;
-        directory.sync()?;
         match lines.skip(place.skipped) {
             Ok(()) => {}
             Err(SkipFault::Failed(reason)) => return Err(FunnelFault::Segment { segment, reason }),

@@ -1,6 +1,6 @@
 // The directory of a funnel's segments.
 use crate::fault::FunnelFault;
-use segments::{AddFault, Segments, name_of};
+use segments::{AddFault, Listing, Segments, name_of};
 use std::alloc::AllocError;
 use std::fs::{self, File};
 use std::io::{self, ErrorKind};
@@ -21,21 +21,21 @@ impl<F: AllocGlobal + Files<File = File>> SegmentDirectory<'_, F> {
     /// # Errors
     /// The system's error; `NoNumber`.
     pub fn list(&self) -> Result<Segments, FunnelFault> {
-        let mut segments = Segments::new(self.files.alloc());
+        let mut listing = Listing::new(self.files.alloc());
         for entry in fs::read_dir(&self.files, self.path.as_str())? {
             match entry {
-                Ok(entry) => self.add(&mut segments, entry.file_name())?,
+                Ok(entry) => self.add(&mut listing, entry.file_name())?,
                 // A name that is not valid UTF-8.
                 Err(error) if error.kind() == ErrorKind::InvalidFilename => {}
                 Err(error) => return Err(FunnelFault::Failed(error)),
             }
         }
-        Ok(segments)
+        Ok(listing.into_segments())
     }
 
     // Adds the segment with this name, if it is the name of a segment.
-    fn add(&self, segments: &mut Segments, name: &str) -> Result<(), FunnelFault> {
-        match segments.add(name.as_bytes()) {
+    fn add(&self, listing: &mut Listing, name: &str) -> Result<(), FunnelFault> {
+        match listing.add(name.as_bytes()) {
             Ok(_) => Ok(()),
             Err(AddFault::Name(_)) => Err(FunnelFault::NoNumber {
                 name: String::from_str(self.files.alloc(), name)?,
@@ -56,6 +56,18 @@ impl<F: AllocGlobal + Files<File = File>> SegmentDirectory<'_, F> {
             Err(error) => Err(error),
         };
         opened.map_err(|reason| FunnelFault::Segment { segment, reason })
+    }
+
+    /// Whether something has the name of a segment. What cannot be looked at is there: to open it gives the reason.
+    ///
+    /// # Errors
+    /// Memory was refused.
+    pub fn has_name(&self, segment: u64) -> Result<bool, AllocError> {
+        let there = fs::metadata(self.files, self.path_of(segment)?.as_str());
+        Ok(match there {
+            Ok(_) => true,
+            Err(error) => error.kind() != ErrorKind::NotFound,
+        })
     }
 
     /// Whether this file still has a segment's name.

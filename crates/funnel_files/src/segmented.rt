@@ -1,20 +1,26 @@
 // A funnel that is a directory of segments: its lines, segment by segment.
 use crate::fault::FunnelFault;
+use crate::held_names::HeldNames;
 use crate::lines::Next;
+use crate::listing_pace::ListingPace;
 use crate::position::Misfit;
 use crate::segment::OpenSegment;
 use crate::segment_directory::SegmentDirectory;
 use crate::tidying::Tidying;
-use segments::{SegmentPlace, Segments};
+use segments::SegmentPlace;
 use std::fs::File;
-use std::rt::Files;
+use std::rt::{Clock, Files};
 
 /// The lines of a directory of segments.
 #[derive(Drop)]
 pub(crate) struct SegmentedFunnel<'a, F> {
     directory: SegmentDirectory<'a, F>,
+    names: HeldNames,
+    pace: ListingPace,
     // `None` before there is a first segment.
     open: Option<OpenSegment>,
+    // The segment that was opened first.
+    begun: u64,
     // Reading begins after this line.
     mark: u64,
     is_followed: bool,
@@ -34,9 +40,13 @@ impl<'a, F: AllocGlobal + Files<File = File>> SegmentedFunnel<'a, F> {
         is_followed: bool,
         is_tidied: bool,
     ) -> Result<Self, FunnelFault> {
+        let names = HeldNames::new(directory.files.alloc());
         let mut reader = SegmentedFunnel {
             directory,
+            names,
+            pace: ListingPace::new(),
             open: None,
+            begun: 0,
             mark,
             is_followed,
             tidying: is_tidied.then_some(Tidying::new()),
@@ -52,7 +62,7 @@ impl<'a, F: AllocGlobal + Files<File = File>> SegmentedFunnel<'a, F> {
     /// # Errors
     /// Segments do not fit together, are not regular files or become shorter; the system's error. Nothing more may be
     /// read then.
-    pub fn next(&mut self) -> Result<Next, FunnelFault> {
+    pub fn next<R: Clock>(&mut self, rt: &R) -> Result<Next, FunnelFault> {
         for _ in 0..u64::MAX {
             let Some(open) = &mut self.open else {
                 if self.begin()? {
@@ -63,7 +73,7 @@ impl<'a, F: AllocGlobal + Files<File = File>> SegmentedFunnel<'a, F> {
             if let Some(line) = open.next_read()? {
                 return Ok(Next::Line(line));
             }
-            if !open.read_piece()? && !self.pass_end()? {
+            if !open.read_piece()? && !self.pass_end(rt)? {
                 return Ok(if self.is_followed {
                     Next::Pause
                 } else {
@@ -76,11 +86,13 @@ impl<'a, F: AllocGlobal + Files<File = File>> SegmentedFunnel<'a, F> {
 
     // Opens the segment with the first line to be read, if there is any segment.
     fn begin(&mut self) -> Result<bool, FunnelFault> {
-        let segments = self.directory.list()?;
+        self.list()?;
         let (after, mark) = (self.mark, self.mark);
+        let segments = self.names.segments();
         match (segments.place_of(mark), segments.after(0)) {
             (Some(place), _) => {
-                self.open_at(&segments, place, mark)?;
+                self.begun = place.first;
+                self.open_at(place, mark)?;
                 Ok(true)
             }
             (None, Some(next)) => Err(Misfit::Gap { after, next }.into()),
@@ -88,47 +100,92 @@ impl<'a, F: AllocGlobal + Files<File = File>> SegmentedFunnel<'a, F> {
         }
     }
 
+    // Lists the directory, and holds the names.
+    fn list(&mut self) -> Result<(), FunnelFault> {
+        let listed = self.directory.list()?;
+        let open = match &self.open {
+            Some(open) => open.position.segment(),
+            None => 0,
+        };
+        Ok(self.names.renew(listed, self.begun, open)?)
+    }
+
     // Goes on from the end of the open segment, into the next one if there is one. Returns whether there may be more
     // to read.
-    fn pass_end(&mut self) -> Result<bool, FunnelFault> {
+    fn pass_end<R: Clock>(&mut self, rt: &R) -> Result<bool, FunnelFault> {
+        let Some(open) = &mut self.open else {
+            return Ok(false);
+        };
+        let known = open.next_segment()?;
+        if known.is_none() && self.find_awaited()? {
+            return Ok(true);
+        }
+        let count = self.names.segments().len();
+        let is_due = self.pace.is_due(rt, known.is_none(), count);
+        if is_due || (known.is_none() && !self.is_followed) {
+            self.list()?;
+        }
+        self.go_on(known)
+    }
+
+    // The open segment was read to its end, which is complete if the next one is known. Goes on with that one, or reads
+    // the open one once more if another next one, or another file of its name, is there.
+    fn go_on(&mut self, known: Option<u64>) -> Result<bool, FunnelFault> {
         let Some(open) = &mut self.open else {
             return Ok(false);
         };
         let first = open.position.segment();
-        let next = open.next_segment()?;
-        let segments = self.directory.list()?;
-        if let Some(first) = next {
-            self.open_first(&segments, first)?;
-            return Ok(true);
+        if known.is_none() && self.is_followed {
+            open.look()?;
+            if open.is_replaced(&self.directory)? {
+                self.open_first(first)?;
+                return Ok(true);
+            }
         }
-        if let Some(next) = segments.after(first) {
-            // It was complete before the next one had its name, but may have grown since it was read.
-            open.position.complete(next);
-            return Ok(true);
+        match (known, self.names.segments().after(first)) {
+            (Some(next), held) if held.is_none() || held == known => {
+                self.open_first(next)?;
+                Ok(true)
+            }
+            (_, Some(next)) => {
+                // It was complete before the next one had its name, but may have grown since it was read.
+                open.position.complete(next);
+                Ok(true)
+            }
+            (_, None) => Ok(false),
         }
-        if !self.is_followed {
+    }
+
+    // Whether the segment is there whose name the number after the open one's last line is. Then the open one is
+    // complete.
+    fn find_awaited(&mut self) -> Result<bool, FunnelFault> {
+        let Some(open) = &mut self.open else {
+            return Ok(false);
+        };
+        let Some(next) = open.position.awaited() else {
+            return Ok(false);
+        };
+        if !self.directory.has_name(next)? {
             return Ok(false);
         }
-        open.look()?;
-        let is_replaced = open.is_replaced(&self.directory)?;
-        if is_replaced {
-            self.open_first(&segments, first)?;
-        }
-        Ok(is_replaced)
+        self.names.add(next)?;
+        open.position.complete(next);
+        Ok(true)
     }
 
-    fn open_first(&mut self, segments: &Segments, first: u64) -> Result<(), FunnelFault> {
+    fn open_first(&mut self, first: u64) -> Result<(), FunnelFault> {
         let place = SegmentPlace { first, skipped: 0 };
-        self.open_at(segments, place, first.saturating_sub(1))
+        self.open_at(place, first.saturating_sub(1))
     }
 
-    fn open_at(
-        &mut self,
-        segments: &Segments,
-        place: SegmentPlace,
-        mark: u64,
-    ) -> Result<(), FunnelFault> {
-        let open = OpenSegment::open(&self.directory, segments, place, mark)?;
+    // Opens the segment at this place, after the lines up to this mark. Its name is durable then.
+    fn open_at(&mut self, place: SegmentPlace, mark: u64) -> Result<(), FunnelFault> {
+        let next = self.names.segments().after(place.first);
+        let open = OpenSegment::open(&self.directory, place, next, mark)?;
+        if !self.names.is_durable(place.first) {
+            self.directory.sync()?;
+            self.names.keep_durable();
+        }
         self.open = Some(open);
         if let Some(tidying) = &mut self.tidying {
             tidying.come(place.first);
@@ -137,10 +194,11 @@ impl<'a, F: AllocGlobal + Files<File = File>> SegmentedFunnel<'a, F> {
     }
 
     /// Removes the segments before the one with the line after this mark, as far as they were read, if the funnel is
-    /// tidied and some may have become removable since the last call.
+    /// tidied and some may have become removable since the last call. The name of the one that stays is durable, since
+    /// it was opened.
     ///
     /// # Errors
-    /// `Unremoved`; the system's error; `NoNumber`.
+    /// `Unremoved`; memory was refused.
     pub fn tidy(&mut self, mark: u64) -> Result<(), FunnelFault> {
         let (Some(tidying), Some(open)) = (&mut self.tidying, &self.open) else {
             return Ok(());
@@ -148,17 +206,16 @@ impl<'a, F: AllocGlobal + Files<File = File>> SegmentedFunnel<'a, F> {
         if !tidying.is_due(mark) {
             return Ok(());
         }
-        let segments = self.directory.list()?;
+        let segments = self.names.segments();
         let Some(place) = segments.place_of(mark) else {
             return Ok(());
         };
         let kept = place.first.min(open.position.segment());
-        // Those that stay must not lose their names in a power cut that comes after this.
-        self.directory.sync()?;
         for segment in segments.before(kept) {
             self.directory.remove(*segment)?;
         }
         tidying.remove(segments.after(kept));
+        self.names.remove_before(kept);
         Ok(())
     }
 }

@@ -14,6 +14,7 @@ use cli_args::read_args;
 use feed_ends::Feeds;
 use feed_run::SystemFeeds;
 use files::SystemFiles;
+use log_writer::{LastLines, RunLog};
 use std::env;
 use std::io::{self, BufWriter, ErrorKind, Write};
 use std::process::ExitCode;
@@ -30,9 +31,13 @@ fn main(rt: HostRuntime) -> ExitCode {
         let _ = rt.stderr().write_all(NO_NULL);
         return ExitCode::from(Exit::Unreadable.status());
     };
+    // A feed begins it. From then on all lines on standard error go through it, the last ones too.
+    let log = RunLog::new();
+    let mut feeds = SystemFeeds::new(&rt, &rt, rt, &log);
+    let mut err = LastLines::new(&rt, rt.stderr(), &log);
     // Besides the order, the only failure is that memory is refused.
-    let mut feeds = SystemFeeds::new(&rt, &rt, rt);
-    let exit = obey_args(&rt, &mut feeds, &mut rt.stderr()).unwrap_or(Exit::NoMemory);
+    let exit = obey_args(&rt, &mut feeds, &mut err).unwrap_or(Exit::NoMemory);
+    err.end();
     ExitCode::from(exit.status())
 }
 

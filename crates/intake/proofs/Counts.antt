@@ -14,7 +14,8 @@ use Rattle.std.proofs.Math.Bool.{or-true}
 use Rattle.std.proofs.lemmas.List.{length-map}
 use Rattle.intake.specs.declared.nowhere.UnknownPeer.{UnknownPeer}
 use Rattle.intake.specs.declared.nowhere.UnknownPeers.{UnknownPeers}
-use Rattle.intake.specs.Nowhere.{AddsLine, KeepsAll, KeepsOne, counted, has_all, has_name, is_named}
+use Rattle.kept_lines.specs.Names.{is_named}
+use Rattle.intake.specs.Nowhere.{AddsLine, KeepsAll, KeepsOne, counted, has_all, has_name}
 use Rattle.funnel.specs.Malformed.{one_more}
 
 -- a name that is kept stays so

@@ -2,3 +2,4 @@ mod Counts
 mod OneEach
 mod Stations
 mod TapeErrors
+pub mod Parts

@@ -4,12 +4,9 @@ use Rattle.std.specs.Prelude.{IsTrue, if◌then◌else◌}
 use Rattle.std.specs.List.{list_all, list_any}
 use Rattle.std.specs.Str.{bytes_eq}
 use Rattle.funnel.specs.Malformed.{one_more}
+use Rattle.kept_lines.specs.Names.{is_named}
 use Rattle.intake.specs.declared.nowhere.UnknownPeer.{UnknownPeer}
 use Rattle.intake.specs.declared.nowhere.UnknownPeers.{UnknownPeers}
-
--- whether a name is one of these
-abbrev pub is_named : List (List ℕ) → List ℕ → Bool
-is_named names name = list_any (λ one. bytes_eq one name) names
 
 -- whether a peer of this name is among these
 abbrev pub has_name : List UnknownPeer → List ℕ → Bool
@@ -23,16 +20,16 @@ counted names peer = if is_named names peer.name then record peer { lines = one_
 abbrev pub has_all : List UnknownPeer → List (List ℕ) → Bool
 has_all named names = list_all (has_name named) names
 
--- Nothing changes if the peer is logged by name already, or there is no room; otherwise it is from now on, with no line
--- counted yet.
+-- Nothing changes if the peer is logged by name already, or there is no room; otherwise it is from now on, with no
+-- line counted yet.
 abbrev pub KeepsOne : List ℕ → UnknownPeers → UnknownPeers → Type 0
 KeepsOne name old new =
     ((new ≡ old) × (length old.named.items < 16 → IsTrue (has_name old.named.items name)))
     ⊎ ((peer : UnknownPeer) × (length old.named.items < 16) × (peer.name ≡ name) × (peer.lines ≡ 0)
     × (new.named.items ≡ old.named.items ++ peer ∷ []) × (new.others ≡ old.others))
 
--- Some of these peers are logged by name from now on, after the others, with no line counted yet; all of them, unless 16
--- are.
+-- Some of these peers are logged by name from now on, after the others, with no line counted yet; all of them, unless
+-- 16 are.
 pub record KeepsAll (names : List (List ℕ)) (old new : UnknownPeers) : Type 0 where
   pub fresh : List UnknownPeer
   pub named : new.named.items ≡ old.named.items ++ fresh

@@ -23,7 +23,7 @@ pub struct OtherFiles<'a> {
 }
 
 /// Imports the backlog files of these peers, in their order, from the directory at this path, which is locked, and logs
-/// what became of each.
+/// what became of each: of each peer the file with its name first, and then the lines that were kept for it.
 ///
 /// # Errors
 /// The first file that cannot be imported or removed; the first failure of a tape.
@@ -37,14 +37,28 @@ pub fn take_backlogs<R: Log, F: AllocGlobal + Files<File = File>>(
 ) -> Result<(), RunError> {
     let backlogs = backlog_files(files, tapes, directory, others)?;
     for peer in peers {
-        match backlogs.take_in(peer) {
-            Ok(Some(imported)) => log_import(rt, &imported),
-            Ok(None) => {}
-            Err(fault) => {
-                let name = peer.name.bytes();
-                return Err(RunError::backlog(rt, files.alloc(), name, fault));
-            }
+        let given = backlogs.take_in(peer);
+        let is_left = matches!(&given, Ok(Some(imported)) if imported.is_left);
+        report(rt, files.alloc(), peer, given)?;
+        if !is_left {
+            let kept = backlogs.take_kept(peer);
+            report(rt, files.alloc(), peer, kept)?;
         }
+    }
+    Ok(())
+}
+
+// Logs what became of a file of this peer, if there was one.
+fn report<R: Log>(
+    rt: &R,
+    alloc: Global,
+    peer: &PostPeer<FileDisk<TapeFile>>,
+    taken: Result<Option<Imported>, BacklogFault>,
+) -> Result<(), RunError> {
+    match taken {
+        Ok(Some(imported)) => log_import(rt, &imported),
+        Ok(None) => {}
+        Err(fault) => return Err(RunError::backlog(rt, alloc, peer.name.bytes(), fault)),
     }
     Ok(())
 }

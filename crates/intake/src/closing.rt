@@ -3,18 +3,20 @@ use crate::run_error::RunError;
 use crate::status_file::StatusFile;
 use crate::stop_file::StopFile;
 use disk_model::Disk;
-use feed_ends::{FeedEnd, Owing};
+use feed_ends::{FeedEnd, Owing, TapeError};
 use flusher::{Free, Naming, Post, PostFault};
 use funnel::PeerName;
-use log::Log;
+use log::{Log, warn};
 use std::alloc::AllocError;
 use std::fs::File;
 use std::rt::{Clock, Files};
+use std::str;
 use std::sync::Wait;
 
 /// Flushes what is still pending, writes the status file, and adds what is still owed. `is_reported` is whether it was
 /// reported before that the status file cannot be written. After a fault of a tape only the other tapes are flushed,
-/// and nothing is acknowledged; what the tape's peer is owed is not known, and not reported.
+/// and nothing is acknowledged; what the tape's peer is owed is not known, and not reported. Further tapes that failed
+/// are logged.
 pub fn close<D: Disk, N: Naming, R: Wait + Clock + Log, F: AllocGlobal + Files<File = File>>(
     rt: &R,
     post: &Post<D, N>,
@@ -34,7 +36,9 @@ pub fn close<D: Disk, N: Naming, R: Wait + Clock + Log, F: AllocGlobal + Files<F
     for (peer, name) in names.iter().enumerate() {
         if peer < post.peers() {
             let reported = post.reported(rt, peer);
-            if !reported.has_failed && add_owing(name, reported.totals.owed, end).is_err() {
+            if reported.has_failed {
+                log_further(rt, name, end);
+            } else if add_owing(name, reported.totals.owed, end).is_err() {
                 end.lacks_resources = true;
             }
         }
@@ -52,6 +56,17 @@ fn flush<D: Disk, N: Naming, R: Wait>(
         return Ok(());
     }
     post.flush_working(rt, &Free)
+}
+
+// Logs that this peer's tape failed, unless that is reported as what ended the run.
+fn log_further<R: Log>(rt: &R, name: &PeerName, end: &FeedEnd) {
+    let is_reported = end.tapes.iter().any(|error| match error {
+        TapeError::Failed { name: failed, .. } => failed.as_slice() == name.bytes(),
+        TapeError::Taken(_) | TapeError::Foreign(_) => false,
+    });
+    if !is_reported {
+        warn!(rt; "{}: its tape has failed, too", str::from_utf8(name.bytes()).unwrap_or(""));
+    }
 }
 
 fn add_owing(name: &PeerName, owed: u64, end: &mut FeedEnd) -> Result<(), AllocError> {

@@ -11,16 +11,17 @@ use std::rt::{Clock, Files};
 use std::str;
 use std::time::Duration;
 
-/// The backlog directory, which is locked, and the files of its tapes, as far as they could be opened: those of the
-/// peers by name, and the intake's last.
+/// The files of a tape, the first and the second; or why one of them could not be opened.
+pub(crate) type OpenedFiles = Result<(FileDisk<TapeFile>, FileDisk<TapeFile>), RunError>;
+
+/// The backlog directory, which is locked, and the files of its tapes.
 #[derive(Drop)]
 pub(crate) struct Disks {
     pub directory: TapeDirectory,
     pub path: String,
-    /// The first file of each tape and the second.
-    pub files: Vec<(FileDisk<TapeFile>, FileDisk<TapeFile>)>,
-    /// Why the next tape's files could not be opened.
-    pub missed: Option<RunError>,
+    /// Those of the peers by name, and the intake's last. Without `goes_on` none is tried after one that could not be
+    /// opened.
+    pub files: Vec<OpenedFiles>,
 }
 
 // How often a lock that another process holds is tried again: `--owed` holds a shared one for a moment.
@@ -29,7 +30,8 @@ const LOCK_TRIES_MAX: u32 = 20;
 const LOCK_PAUSE_MS: u64 = 100;
 
 /// Locks the backlog directory at this path and opens the files of the tapes of these peers and of the intake. Missing
-/// files are made, and the names made durable. Waits for the lock for 2 seconds at most.
+/// files are made, and the names made durable. Waits for the lock for 2 seconds at most. `goes_on` is whether the next
+/// tape is tried after one whose files could not be opened.
 ///
 /// # Errors
 /// The directory's. What is wrong with the directory itself is reported as a fault of the first tape.
@@ -38,6 +40,7 @@ pub(crate) fn open_disks<R: Clock, F: AllocGlobal + Files<File = File>>(
     files: &F,
     path: &[u8],
     peers: &[PeerConf],
+    goes_on: bool,
 ) -> Result<Disks, RunError> {
     let alloc = files.alloc();
     let first = first_name(peers);
@@ -49,12 +52,16 @@ pub(crate) fn open_disks<R: Clock, F: AllocGlobal + Files<File = File>>(
         directory: lock(rt, files, path, first)?,
         path: String::from_str(alloc, path)?,
         files: Vec::new(alloc),
-        missed: None,
     };
+    let mut is_well = true;
     for peer in peers {
-        open_next(files, &mut disks, peer.name.bytes());
+        if is_well || goes_on {
+            is_well &= open_next(files, &mut disks, peer.name.bytes())?;
+        }
     }
-    open_next(files, &mut disks, INTAKE);
+    if is_well || goes_on {
+        open_next(files, &mut disks, INTAKE)?;
+    }
     match disks.directory.sync() {
         Ok(()) => Ok(disks),
         Err(error) => Err(RunError::unopened(alloc, first, path.as_bytes(), error)),
@@ -102,25 +109,26 @@ fn lock_soon<R: Clock, F: AllocGlobal + Files<File = File>>(
     TapeDirectory::lock(files, path)
 }
 
-// Opens the files of one more tape, unless opening failed before.
-fn open_next<F: AllocGlobal + Files<File = File>>(files: &F, disks: &mut Disks, name: &[u8]) {
-    if disks.missed.is_some() {
-        return;
-    }
-    if let Err(error) = add_disk(files, disks, name) {
-        disks.missed = Some(error);
-    }
-}
-
-fn add_disk<F: AllocGlobal + Files<File = File>>(
+// Opens the files of one more tape. Returns whether they could be opened.
+fn open_next<F: AllocGlobal + Files<File = File>>(
     files: &F,
     disks: &mut Disks,
     name: &[u8],
-) -> Result<(), RunError> {
+) -> Result<bool, RunError> {
+    let opened = open_both(files, disks, name);
+    let is_well = opened.is_ok();
+    disks.files.push(opened)?;
+    Ok(is_well)
+}
+
+fn open_both<F: AllocGlobal + Files<File = File>>(
+    files: &F,
+    disks: &Disks,
+    name: &[u8],
+) -> OpenedFiles {
     let first = open_file(files, disks, name, "~a")?;
     let second = open_file(files, disks, name, "~b")?;
-    disks.files.push((first, second))?;
-    Ok(())
+    Ok((first, second))
 }
 
 fn open_file<F: AllocGlobal + Files<File = File>>(
@@ -129,18 +137,33 @@ fn open_file<F: AllocGlobal + Files<File = File>>(
     name: &[u8],
     ending: &str,
 ) -> Result<FileDisk<TapeFile>, RunError> {
+    open_beside(files, &disks.directory, &disks.path, name, ending)
+}
+
+/// Opens the file of this peer, or of the intake, with this ending, in the directory at this path. It is made if it is
+/// missing.
+///
+/// # Errors
+/// Memory was refused; the system's.
+pub(crate) fn open_beside<F: AllocGlobal + Files<File = File>>(
+    files: &F,
+    directory: &TapeDirectory,
+    path: &str,
+    name: &[u8],
+    ending: &str,
+) -> Result<FileDisk<TapeFile>, RunError> {
     let alloc = files.alloc();
     let file = file_name(alloc, name, ending)?;
-    match disks.directory.open(files, file.as_str()) {
+    match directory.open(files, file.as_str()) {
         Ok(disk) => Ok(disk),
         Err(error) => {
-            let path = format!(in alloc; "{}/{}", disks.path, file)?;
+            let path = format!(in alloc; "{}/{}", path, file)?;
             Err(RunError::unopened(alloc, name, path.as_bytes(), error))
         }
     }
 }
 
-// `NAME~a` or `NAME~b`.
+// `NAME~a`, `NAME~b` or `NAME~kept`.
 fn file_name(alloc: Global, name: &[u8], ending: &str) -> Result<String, RunError> {
     let Ok(text) = str::from_utf8(name) else {
         return Err(RunError::tape(alloc, name, TapeFault::Disk));

@@ -3,18 +3,21 @@ ghost use Rattle.std.specs.Prelude.{◌≡◌, ◌≤◌, IfOk, length, true};
 ghost use Rattle.intake.specs.Ordered.{lasts_of};
 
 use crate::countdown::Countdown;
+use crate::keeping::LineKeeper;
 use crate::nowhere::Nowhere;
 use crate::ordered::OrderedBatches;
 use crate::progress::Progress;
 use crate::run_error::{RunError, is_lost_tape};
+use crate::spare_room::KeptRoom;
 use crate::status_file::StatusFile;
 use crate::stop_file::StopFile;
-use disk_model::Disk;
-use feed_ends::FeedEnd;
+use disk_model::{Disk, TapeDirectory};
+use feed_ends::{FeedEnd, FileError};
 use flusher::{IntakeShare, Naming, Pace, Post, PostFault, Receipt, Signals, Work};
-use funnel::{FunnelLine, LineFault, PeerName, read_line};
+use funnel::PeerName;
 use funnel_files::{Funnel, Next};
-use log::Log;
+use kept_lines::{KeepFault, KeptLines, ReadLine, ReadLines, Reading, UnknownKept};
+use log::{Log, warn};
 use mio::Waker;
 use peer_queue::StationFault;
 use recovery::TapeFault;
@@ -28,6 +31,9 @@ use std::time::{Duration, Instant};
 
 const BATCH_MAX_LINES: u64 = 256;
 
+// The file of lines that name unknown peers, in the backlog directory.
+const UNKNOWN: &str = "~unknown";
+
 // How many batches may be not acknowledged yet while the next one is taken.
 const AHEAD_MAX_BATCHES: usize = 64;
 
@@ -39,6 +45,14 @@ const FLUSH_PAUSE_MS: u64 = 20;
 
 // How often lines that go nowhere are logged.
 const NOWHERE_PERIOD_SECONDS: u64 = 60;
+
+// Lines that were read one after another, and are not taken yet.
+#[derive(Drop)]
+struct ReadBatch {
+    lines: ReadLines,
+    // No line comes after this batch.
+    is_last: bool,
+}
 
 // Lines that were taken one after another.
 #[derive(Clone, Copy)]
@@ -63,6 +77,14 @@ pub struct IntakeWorker<'a, F, W, N: Naming> {
     pub status: StatusFile<'a, F>,
     pub progress: Progress,
     pub nowhere: Nowhere,
+    /// What keeps what no tape takes of a line, before the line is taken.
+    pub keeper: LineKeeper,
+    pub files: &'a F,
+    /// The backlog directory, and its path.
+    pub tapes: &'a TapeDirectory,
+    pub directory: &'a str,
+    /// Room that is kept back, if the run follows its funnel.
+    pub room: Option<KeptRoom<'a, F>>,
     /// All lines up to this number are acknowledged: by the intake's tape as it was opened, or by a receipt.
     pub acknowledged: u64,
     /// When the lines that go nowhere were logged last.
@@ -124,37 +146,159 @@ impl<F: AllocGlobal + Files<File = File>, W: Write, N: Naming> IntakeWorker<'_, 
         funnel: &mut Funnel<'_, F>,
         pause: u64,
     ) -> Result<Batch, RunError> {
+        let ReadBatch { lines, is_last } = self.read_batch(rt, signals, funnel, pause)?;
         let mut batch = Batch {
             count: 0,
             last: 0,
-            is_last: false,
+            is_last,
         };
-        for taken in 0..BATCH_MAX_LINES {
-            let line = match self.next_line(rt, signals, funnel) {
-                Next::Line(line) => line,
-                Next::Silence => return Ok(batch),
-                Next::Pause => {
-                    if batch.count == 0 {
-                        thread::sleep(rt, Duration::from_millis(pause));
-                    }
-                    return Ok(batch);
-                }
-                Next::End => return Ok(Batch {
-                    is_last: true,
-                    ..batch
-                }),
-            };
-            let Some(number) = self.take_line(rt, post, signals, &line)? else {
+        let Some(kept) = self.keep(rt, signals, lines)? else {
+            return Ok(Batch {
+                is_last: true,
+                ..batch
+            });
+        };
+        for line in kept.lines() {
+            let Some(number) = self.take_line(rt, post, signals, line)? else {
                 return Ok(Batch {
                     is_last: true,
                     ..batch
                 });
             };
-            self.count_line(number, &line)?;
-            batch.count = taken + 1;
+            self.count_line(number, line)?;
+            batch.count = batch.count.saturating_add(1);
             batch.last = number;
         }
         Ok(batch)
+    }
+
+    // Reads a batch of lines: none as long as no room is kept back.
+    fn read_batch<R: Wait + Clock + Log>(
+        &mut self,
+        rt: &R,
+        signals: &Signals,
+        funnel: &mut Funnel<'_, F>,
+        pause: u64,
+    ) -> Result<ReadBatch, AllocError> {
+        let mut lines = ReadLines::new(self.alloc);
+        let has_room = match &mut self.room {
+            Some(room) => room.is_there(rt),
+            None => true,
+        };
+        if !has_room && !signals.is_stopped() && !signals.has_lost_tape() {
+            thread::sleep(rt, Duration::from_millis(pause));
+            return Ok(ReadBatch {
+                lines,
+                is_last: false,
+            });
+        }
+        for _ in 0..BATCH_MAX_LINES {
+            match self.next_line(rt, signals, funnel) {
+                Next::Line(line) => lines.add(line, self.names)?,
+                Next::Silence => break,
+                Next::Pause => {
+                    if lines.len() == 0 {
+                        thread::sleep(rt, Duration::from_millis(pause));
+                    }
+                    break;
+                }
+                Next::End => {
+                    return Ok(ReadBatch {
+                        lines,
+                        is_last: true,
+                    });
+                }
+            }
+        }
+        Ok(ReadBatch {
+            lines,
+            is_last: false,
+        })
+    }
+
+    // Keeps what no tape takes of these lines. None if that failed for a peer that is left out: then no line is taken
+    // any more, as if a tape had failed.
+    fn keep<R: Log>(
+        &mut self,
+        rt: &R,
+        signals: &Signals,
+        lines: ReadLines,
+    ) -> Result<Option<KeptLines>, RunError> {
+        if self.keeper.wants_unknown(&lines)? {
+            self.open_unknown(rt);
+        }
+        match self.keeper.keep(lines) {
+            Ok(kept) => {
+                self.report_unknown(rt, kept.unknown());
+                Ok(Some(kept))
+            }
+            Err(KeepFault::NoMemory) => Err(RunError::OutOfResources),
+            Err(KeepFault::Disk) => {
+                let error = match self.keeper.lost() {
+                    Some(name) => RunError::tape(self.alloc, name.bytes(), TapeFault::Disk),
+                    None => RunError::OutOfResources,
+                };
+                error.add_to(&mut self.end);
+                signals.lose_tape();
+                Ok(None)
+            }
+        }
+    }
+
+    // Opens the file of lines that name unknown peers, and makes its name durable.
+    fn open_unknown<R: Log>(&mut self, rt: &R) {
+        let opened = match self.tapes.open(self.files, UNKNOWN) {
+            Ok(disk) => match self.tapes.sync() {
+                Ok(()) => Ok(disk),
+                Err(error) => Err(error),
+            },
+            Err(error) => Err(error),
+        };
+        match opened {
+            Ok(disk) => {
+                if self.keeper.open_unknown(disk).is_err() {
+                    self.lose_unknown();
+                }
+            }
+            Err(error) => {
+                self.keeper.close_unknown();
+                warn!(
+                    rt; "cannot open {}/{}: {}: lines that name unknown peers are only counted", self.directory,
+                    UNKNOWN, error
+                );
+                self.lose_unknown();
+            }
+        }
+    }
+
+    // Reports if not all lines that name unknown peers were kept, the first time.
+    fn report_unknown<R: Log>(&mut self, rt: &R, kept: UnknownKept) {
+        match kept {
+            UnknownKept::All | UnknownKept::Closed => {}
+            UnknownKept::Full => {
+                warn!(
+                    rt; "{}/{}: unknown-limit is reached: further lines that name unknown peers are only counted",
+                    self.directory, UNKNOWN
+                );
+            }
+            UnknownKept::Failed => {
+                warn!(
+                    rt; "cannot write {}/{}: lines that name unknown peers are only counted", self.directory, UNKNOWN
+                );
+                self.lose_unknown();
+            }
+        }
+    }
+
+    // The file of lines that name unknown peers cannot be written.
+    fn lose_unknown(&mut self) {
+        let path = format!(in self.alloc; "{}/{}", self.directory, UNKNOWN);
+        match path {
+            Ok(path) => {
+                RunError::File(FileError::Unwritten(path.into_bytes())).add_to(&mut self.end);
+            }
+            Err(_) => self.end.lacks_resources = true,
+        }
     }
 
     // What comes next in the funnel: its end also if it cannot be read on, which is reported, or if no line may be
@@ -184,10 +328,10 @@ impl<F: AllocGlobal + Files<File = File>, W: Write, N: Naming> IntakeWorker<'_, 
         rt: &R,
         post: &Post<D, N>,
         signals: &Signals,
-        line: &[u8],
+        line: &ReadLine,
     ) -> Result<Option<u64>, RunError> {
         for _ in rt.forever() {
-            match post.take_line(rt, line, &mut self.share) {
+            match post.take_line(rt, line.text(), &mut self.share) {
                 Ok(number) => return Ok(Some(number)),
                 Err(
                     PostFault::Station {
@@ -216,29 +360,17 @@ impl<F: AllocGlobal + Files<File = File>, W: Write, N: Naming> IntakeWorker<'_, 
     }
 
     // Counts a line that was taken and goes nowhere.
-    fn count_line(&mut self, number: u64, line: &[u8]) -> Result<(), AllocError> {
-        match read_line(self.alloc, line) {
-            Ok(FunnelLine { peers, .. }) => {
-                let unknown = self.unknown(peers)?;
+    fn count_line(&mut self, number: u64, line: &ReadLine) -> Result<(), AllocError> {
+        match line.reading() {
+            Reading::Good { .. } => {
+                let unknown = self.keeper.unknown_names(line)?;
                 self.nowhere.add_unknown(&unknown)
             }
-            Err(LineFault::NoMemory) => Err(AllocError),
-            Err(fault) => {
-                self.nowhere.add_malformed(number, fault);
+            Reading::Malformed(fault) => {
+                self.nowhere.add_malformed(number, *fault);
                 Ok(())
             }
         }
-    }
-
-    // Those of these names that no peer has.
-    fn unknown(&self, peers: Vec<PeerName>) -> Result<Vec<PeerName>, AllocError> {
-        let mut unknown = Vec::new(self.alloc);
-        for peer in peers {
-            if !has_name(self.names, &peer) {
-                unknown.push(peer)?;
-            }
-        }
-        Ok(unknown)
     }
 
     // Whether the run follows its funnel and is asked to end.
@@ -339,10 +471,8 @@ impl<F: AllocGlobal + Files<File = File>, W: Write, N: Naming> IntakeWorker<'_, 
         path: &[u8],
     ) {
         self.progress.log(rt, post, self.names);
-        if self.status.wait(rt) == 0
-            && let Err(error) = self.status.write(rt, post, self.names)
-        {
-            self.keep_status_error(error);
+        if self.status.wait(rt) == 0 {
+            self.write_status(rt, post);
         }
         if let Ok(passed) = self.nowhere_logged.elapsed(rt)
             && passed.as_secs() >= NOWHERE_PERIOD_SECONDS
@@ -351,6 +481,13 @@ impl<F: AllocGlobal + Files<File = File>, W: Write, N: Naming> IntakeWorker<'_, 
             if let Ok(now) = Instant::now(rt) {
                 self.nowhere_logged = now;
             }
+        }
+    }
+
+    // Writes the status file.
+    fn write_status<D: Disk, R: Wait + Clock + Log>(&mut self, rt: &R, post: &Post<D, N>) {
+        if let Err(error) = self.status.write(rt, post, self.names) {
+            self.keep_status_error(error);
         }
     }
 
@@ -388,13 +525,6 @@ impl<F: AllocGlobal + Files<File = File>, W: Write, N: Naming> IntakeWorker<'_, 
     }
 }
 
-// Whether this name is one of these, which are in byte order.
-fn has_name(names: &[PeerName], name: &PeerName) -> bool {
-    names
-        .binary_search_by(|known| known.bytes().cmp(name.bytes()))
-        .is_ok()
-}
-
 impl<D: Disk, F: AllocGlobal + Files<File = File>, W: Write, N: Naming> Work<D, N>
     for IntakeWorker<'_, F, W, N> {
     fn run<R: AllocGlobal + Wait + Clock + Log, P: Pace>(
@@ -405,6 +535,9 @@ impl<D: Disk, F: AllocGlobal + Files<File = File>, W: Write, N: Naming> Work<D, 
         _pace: &P,
     ) {
         self.end.lacks_resources |= self.progress.begin(rt, post).is_err();
+        if self.stop.is_some() {
+            self.write_status(rt, post);
+        }
         let mut funnel = self.funnel.take();
         self.take_all(rt, post, signals, &mut funnel);
         let path: &[u8] = match &funnel {

@@ -1,6 +1,7 @@
 // Lines of the funnel that go nowhere: those that name unknown peers, and those that are malformed.
 ghost use Rattle.std.specs.Prelude.{◌≡◌, ◌≤◌, [], None, OnOk, false, if◌then◌else◌, length, map};
-ghost use Rattle.intake.specs.Nowhere.{AddsLine, KeepsAll, KeepsOne, counted, has_all, has_name, is_named};
+ghost use Rattle.kept_lines.specs.Names.{is_named};
+ghost use Rattle.intake.specs.Nowhere.{AddsLine, KeepsAll, KeepsOne, counted, has_all, has_name};
 ghost use Rattle.funnel.specs.Malformed.{one_more};
 
 use funnel::{LineFault, Malformed, PeerName};

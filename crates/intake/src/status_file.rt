@@ -5,7 +5,7 @@ use crate::run_error::RunError;
 use disk_model::Disk;
 use flusher::{Naming, Post};
 use funnel::PeerName;
-use log::Log;
+use log::{Log, warn};
 use status::{PeerStatus, report};
 use std::alloc::{AllocError, Global};
 use std::fs::{self, File, OpenOptions};
@@ -23,17 +23,21 @@ pub struct StatusFile<'a, F> {
     files: &'a F,
     path: Vec<u8>,
     written: Instant,
+    // Whether it is logged at once that it cannot be written: the run may not end for long.
+    warns: bool,
 }
 
 impl<'a, F: AllocGlobal + Files<File = File>> StatusFile<'a, F> {
-    /// The file at this path, which counts as written now.
-    pub fn new(files: &'a F, path: Vec<u8>, now: Instant) -> Self
-        ensures { (result.path ≡ path) × (result.written ≡ now) }
+    /// The file at this path, which counts as written now. If it cannot be written, a run that `warns` logs that at
+    /// once, the first time.
+    pub fn new(files: &'a F, path: Vec<u8>, now: Instant, warns: bool) -> Self
+        ensures { (result.path ≡ path) × (result.written ≡ now) × (result.warns ≡ warns) }
     {
         StatusFile {
             files,
             path,
             written: now,
+            warns,
         }
     }
 
@@ -64,7 +68,14 @@ impl<'a, F: AllocGlobal + Files<File = File>> StatusFile<'a, F> {
         let text = text_of(alloc, rt, post, names)?;
         match self.put(&text) {
             Ok(()) => Ok(()),
-            Err(error) => Err(RunError::unwritten(rt, alloc, &self.path, &error)),
+            Err(error) => {
+                if self.warns {
+                    self.warns = false;
+                    let path = str::from_utf8(&self.path).unwrap_or("");
+                    warn!(rt; "cannot write {}: {}", path, error);
+                }
+                Err(RunError::unwritten(rt, alloc, &self.path, &error))
+            }
         }
     }
 

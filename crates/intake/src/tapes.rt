@@ -1,79 +1,169 @@
 // Opening the tapes of all peers and of the intake.
-ghost use Rattle.std.specs.Prelude.{IfOk};
-ghost use Rattle.intake.specs.Tapes.{AreStations, IsStationOf};
+ghost use Rattle.std.specs.Prelude.{◌≡◌, ◌++◌, ◌∷◌, [], IfOk, OnOk, false};
+ghost use Rattle.intake.specs.Tapes.{AddsPeer, AreParted, AreStations, IsStationOf};
 
-use crate::disks::{Disks, open_disks};
+use crate::disks::{Disks, OpenedFiles, open_disks};
 use crate::run_error::{INTAKE, RunError};
 use disk_model::{FileDisk, TapeDirectory, TapeFile};
 use feed_conf::PeerConf;
 use flusher::PostPeer;
 use peer_queue::Limits;
 use recovery::Tape;
-use std::alloc::Global;
+use std::alloc::{AllocError, Global};
 use std::fs::File;
 use std::rt::{Clock, Files};
+use std::vec::IntoIter;
 
-/// The files of a tape, the first and the second.
-type TapeFiles = (FileDisk<TapeFile>, FileDisk<TapeFile>);
+/// A peer whose tape could not be opened.
+#[derive(Drop)]
+pub struct LeftOut {
+    pub conf: PeerConf,
+    /// Why.
+    pub error: RunError,
+}
 
 /// The tapes of all peers, by name, and of the intake; and the directory, which is locked as long as this lives.
 #[derive(Drop)]
 pub struct Tapes {
     pub directory: TapeDirectory,
+    /// The settings of the peers whose tapes are open.
+    pub confs: Vec<PeerConf>,
     pub peers: Vec<PostPeer<FileDisk<TapeFile>>>,
+    /// The other peers.
+    pub left_out: Vec<LeftOut>,
     pub intake: Tape<FileDisk<TapeFile>>,
 }
 
+// What was opened so far.
+#[derive(Drop)]
+struct OpenedPeers {
+    confs: Vec<PeerConf>,
+    peers: Vec<PostPeer<FileDisk<TapeFile>>>,
+    left_out: Vec<LeftOut>,
+}
+
 /// Opens the tapes in the backlog directory at this path, of these peers, in their order, and then of the intake.
+/// `leaves_out` is whether a peer whose tape cannot be opened is left out.
 ///
 /// # Errors
-/// Why the first tape that could not be opened was refused.
+/// Why the first tape that could not be opened was refused, unless its peer is left out. Memory was refused.
 pub fn open_tapes<R: Clock, F: AllocGlobal + Files<File = File>>(
     rt: &R,
     files: &F,
     path: &[u8],
-    peers: &[PeerConf],
+    peers: Vec<PeerConf>,
+    leaves_out: bool,
 ) -> Result<Tapes, RunError>
-    ensures { IfOk result (λ tapes. AreStations peers.now tapes.peers.items) }
+    ensures stations { IfOk result (λ tapes. AreStations tapes.confs.items tapes.peers.items) }
+    ensures parted { IfOk result (λ tapes.
+        AreParted peers.items tapes.confs.items tapes.left_out.items) }
+    ensures all { leaves_out ≡ false → IfOk result (λ tapes. tapes.left_out.items ≡ []) }
 {
     let alloc = files.alloc();
     let Disks {
         directory,
         files: disks,
-        missed,
         ..
-    } = open_disks(rt, files, path, peers)?;
+    } = open_disks(rt, files, path, &peers, leaves_out)?;
     let mut disks = disks.into_iter();
-    let mut opened = Vec::new(alloc);
-    for peer in peers {
-        let Some(both) = disks.next() else {
-            return Err(missed.unwrap_or(RunError::OutOfResources));
-        };
-        opened.push(open_peer(alloc, peer, both)?)?;
-    }
-    let Some(both) = disks.next() else {
-        return Err(missed.unwrap_or(RunError::OutOfResources));
-    };
+    let OpenedPeers {
+        confs,
+        peers,
+        left_out,
+    } = open_peers(alloc, peers, &mut disks, leaves_out)?;
     Ok(Tapes {
         directory,
-        peers: opened,
-        intake: open_tape(alloc, INTAKE, both)?,
+        confs,
+        peers,
+        left_out,
+        intake: open_tape(alloc, INTAKE, next_files(&mut disks))?,
     })
+}
+
+fn open_peers(
+    alloc: Global,
+    peers: Vec<PeerConf>,
+    disks: &mut IntoIter<OpenedFiles>,
+    leaves_out: bool,
+) -> Result<OpenedPeers, RunError>
+    ensures stations { IfOk result (λ opened. AreStations opened.confs.items opened.peers.items) }
+    ensures parted { IfOk result (λ opened.
+        AreParted peers.items opened.confs.items opened.left_out.items) }
+    ensures all { leaves_out ≡ false → IfOk result (λ opened. opened.left_out.items ≡ []) }
+{
+    let mut opened = OpenedPeers {
+        confs: Vec::new(alloc),
+        peers: Vec::new(alloc),
+        left_out: Vec::new(alloc),
+    };
+    for conf in peers {
+        let both = next_files(disks);
+        opened.add(alloc, conf, both, leaves_out)?;
+    }
+    Ok(opened)
+}
+
+impl OpenedPeers {
+    // Opens the tape of a peer in these files, or leaves the peer out.
+    fn add(
+        &mut self,
+        alloc: Global,
+        conf: PeerConf,
+        files: OpenedFiles,
+        leaves_out: bool,
+    ) -> Result<(), RunError>
+        ensures stations { OnOk result (AreStations self.old.confs.items self.old.peers.items
+            → AreStations self.new.confs.items self.new.peers.items) }
+        ensures added { OnOk result (AddsPeer leaves_out conf self.old self.new) }
+    {
+        match open_peer(alloc, &conf, files) {
+            Ok(peer) => Ok(self.add_open(conf, peer)?),
+            Err(error) if leaves_out && !matches!(error, RunError::OutOfResources) => {
+                Ok(self.left_out.push(LeftOut { conf, error })?)
+            }
+            Err(error) => Err(error),
+        }
+    }
+
+    fn add_open(
+        &mut self,
+        conf: PeerConf,
+        peer: PostPeer<FileDisk<TapeFile>>,
+    ) -> Result<(), AllocError>
+        requires { IsStationOf conf peer }
+        ensures stations { OnOk result (AreStations self.old.confs.items self.old.peers.items
+            → AreStations self.new.confs.items self.new.peers.items) }
+        ensures confs { OnOk result
+            (self.new.confs.items ≡ self.old.confs.items ++ conf ∷ []) }
+        ensures left_out { self.new.left_out ≡ self.old.left_out }
+    {
+        self.peers.push(peer)?;
+        self.confs.push(conf)?;
+        Ok(())
+    }
+}
+
+// The files of the next tape.
+fn next_files(disks: &mut IntoIter<OpenedFiles>) -> OpenedFiles {
+    match disks.next() {
+        Some(files) => files,
+        None => Err(RunError::OutOfResources),
+    }
 }
 
 fn open_peer(
     alloc: Global,
     conf: &PeerConf,
-    files: TapeFiles,
+    files: OpenedFiles,
 ) -> Result<PostPeer<FileDisk<TapeFile>>, RunError>
     ensures { IfOk result (IsStationOf conf.now) }
 {
+    let (a, b) = files?;
     let limits = Limits {
         backlog_limit: conf.backlog_limit,
         backlog_high: conf.backlog_high,
         drop_deferred: conf.drop_deferred,
     };
-    let (a, b) = files;
     match PostPeer::open(alloc, conf.name.clone()?, a, b, limits) {
         Ok(peer) => Ok(peer),
         Err(refused) => Err(RunError::tape(alloc, conf.name.bytes(), refused.fault)),
@@ -83,9 +173,9 @@ fn open_peer(
 fn open_tape(
     alloc: Global,
     name: &[u8],
-    files: TapeFiles,
+    files: OpenedFiles,
 ) -> Result<Tape<FileDisk<TapeFile>>, RunError> {
-    let (a, b) = files;
+    let (a, b) = files?;
     match Tape::open(alloc, a, b) {
         Ok(tape) => Ok(tape),
         Err(refused) => Err(RunError::tape(alloc, name, refused.fault)),

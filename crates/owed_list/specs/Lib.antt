@@ -1,1 +1,3 @@
 pub mod FirstRecord
+pub mod Names
+pub mod Texts

@@ -2,6 +2,7 @@
 ghost use Rattle.std.specs.Prelude.{◌≡◌};
 ghost use Rattle.owed_list.specs.declared.fault.ListFault.TheVariants.{NoMemory};
 
+use crate::unread::UnreadTape;
 use feed_ends::{FeedEnd, FileError, TapeError};
 use recovery::TapeFault;
 use std::alloc::{AllocError, AllocFailed, Global};
@@ -14,8 +15,8 @@ pub(crate) enum ListFault {
     NoMemory,
     /// Something is wrong with a tape.
     Tape(TapeError),
-    /// Standard output could not be written.
-    Output(FileError),
+    /// Another file could not be read, or standard output could not be written.
+    File(FileError),
 }
 
 impl From<AllocError> for ListFault {
@@ -46,11 +47,27 @@ impl ListFault {
         }
     }
 
-    /// A file of the tape of this name, or its directory, could not be read.
-    pub fn unread(alloc: Global, name: &[u8], error: &io::Error) -> Self {
+    /// The tape of this name could not be read.
+    pub fn unread_tape(alloc: Global, name: &[u8], unread: &UnreadTape) -> Self {
+        match unread {
+            UnreadTape::File(file) => ListFault::directory(alloc, name, &file.reason),
+            UnreadTape::Fault(fault) => ListFault::tape(alloc, name, *fault),
+        }
+    }
+
+    /// The directory of the tape of this name, or a file of it, could not be read.
+    pub fn directory(alloc: Global, name: &[u8], error: &io::Error) -> Self {
         match error.kind() {
             ErrorKind::OutOfMemory => ListFault::NoMemory,
             _ => ListFault::tape(alloc, name, TapeFault::Disk),
+        }
+    }
+
+    /// The file or the directory at this path, which is no tape's, could not be read.
+    pub fn unread(alloc: Global, path: &[u8], error: &io::Error) -> Self {
+        match (error.kind(), Vec::from_slice(alloc, path)) {
+            (ErrorKind::OutOfMemory, _) | (_, Err(_)) => ListFault::NoMemory,
+            (_, Ok(path)) => ListFault::File(FileError::Unread(path)),
         }
     }
 
@@ -58,7 +75,7 @@ impl ListFault {
     pub fn output(alloc: Global, error: &io::Error) -> Self {
         match (error.kind(), error.to_string(alloc)) {
             (ErrorKind::OutOfMemory, _) | (_, Err(_)) => ListFault::NoMemory,
-            (_, Ok(reason)) => ListFault::Output(FileError::Output(reason)),
+            (_, Ok(reason)) => ListFault::File(FileError::Output(reason)),
         }
     }
 
@@ -67,7 +84,7 @@ impl ListFault {
         let added = match self {
             ListFault::NoMemory => false,
             ListFault::Tape(error) => end.tapes.push(error).is_ok(),
-            ListFault::Output(error) => end.files.push(error).is_ok(),
+            ListFault::File(error) => end.files.push(error).is_ok(),
         };
         if !added {
             end.lacks_resources = true;

@@ -1,15 +1,25 @@
-//! The list of what is owed, read from the tapes without writing, even while another process feeds.
+//! The list of what is owed, read from the tapes without writing, even while another process feeds; and what waits for
+//! names that no peer has.
 //!
 //! May read the backlog directory and the files of the tapes, and ask for a shared lock of the directory; it writes
-//! nothing but the list and the log. The crate above calls [`list_owed`]. Each tape is read whole into memory
-//! (`snapshot`), and read again if a run has rotated it meanwhile (`reading`); the ledger of what was read is that of
-//! `recovery`. Calls are proved here to be safe and to return; `first_record` is proved to be what it says.
+//! nothing but the list and the log. The crate above calls [`list_owed`], and [`log_strangers`] at the start of a run.
+//! Each tape is read whole into memory (`snapshot`), and read again if a run has rotated it meanwhile (`reading`); the
+//! ledger of what was read is that of `recovery`. It is proved which names are no peer's (`strangers`), what each line
+//! of the list is (`lines`), and that `first_record` is what it says; every other call is proved to be safe and to
+//! return.
 #![tactic(auto)]
 
+mod directory;
 mod fault;
 mod first_record;
+mod kept;
+mod lines;
 mod list;
 mod reading;
 mod snapshot;
+mod strangers;
+mod unread;
+mod waiting;
 
 pub use list::list_owed;
+pub use waiting::log_strangers;

@@ -1,7 +1,9 @@
-use Rattle.std.proofs.Common.{◌≡◌, ◌++◌, rules}
+use Rattle.std.proofs.Common.{◌≡◌, ◌++◌, ℕ, List, rules, subst, sym}
 use Rattle.std.specs.Prelude.{codes}
 use Rattle.std.proofs.lemmas.Option.{MatchOption-at_none, MatchOption-at_some}
 use Rattle.drill_script.specs.Action.{Spells}
+use Rattle.drill_script.specs.Peer.{SaysPeer}
+use Rattle.feed_conf.specs.PeerView.{settings_view}
 use Rattle.drill_script.proofs.Once.{no_tape_none}
 use Rattle.drill_script.proofs.Tapes.{none_spelt}
 use Rattle.drill_script.proofs.sentence.read_sentence.Goals as goal
@@ -22,3 +24,9 @@ returns-in-None-2 c =
     (none_spelt Spells text c.in-Some-3.name c.in-Some-3.digits.now
     (MatchOption-at_some _ _ _ c.in-Some-3.is (c.in_ok-name.ensures {u = tt}))
     (MatchOption-at_none _ _ c.in-None-2.is (c.in_ok-octets.ensures {u = tt})))
+
+pub returns-in-Some-2 : goal.returns-in-Some-2
+returns-in-Some-2 c =
+    let e : c.args.line.now ≡ codes "peer " ++ c.in-Some.declaration.now = search rules in
+    subst (λ (l : List ℕ). SaysPeer l (settings_view c.in-Some-2.conf)) (sym e)
+    (MatchOption-at_some _ _ _ c.in-Some-2.is (c.in_ok-conf.ensures {u = tt}))

@@ -1,0 +1,3 @@
+mod Articles
+mod Files
+mod Sets
