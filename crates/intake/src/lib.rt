@@ -23,6 +23,7 @@ mod source;
 mod spare_room;
 mod status_file;
 mod stop_file;
+mod suspect_files;
 mod tapes;
 
 pub use backlogs::{OtherFiles, flush_stations, take_backlogs};
@@ -39,4 +40,5 @@ pub use source::{is_followed, open_funnel};
 pub use spare_room::{KeptRoom, remove_room};
 pub use status_file::StatusFile;
 pub use stop_file::StopFile;
+pub use suspect_files::{keep_suspects, log_malformed_suspects, read_suspects};
 pub use tapes::{LeftOut, Tapes, open_tapes};
