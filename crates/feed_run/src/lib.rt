@@ -8,6 +8,7 @@
 #![tactic(auto)]
 
 mod run;
+mod suspects;
 mod system;
 mod targets;
 mod thread_runtime;

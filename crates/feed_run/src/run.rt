@@ -4,13 +4,14 @@ ghost use Rattle.std.specs.List.{All};
 ghost use Rattle.flusher.specs.Post.{IsFor, names_of};
 ghost use Rattle.flusher.specs.Sealed.{IsFlushed};
 
+use crate::suspects::{keep_all, suspects_of};
 use crate::system::Spools;
 use crate::targets::{by_name, hosts_of, targets_of};
 use article_store::SpoolDirectory;
 use disk_model::{FileDisk, TapeDirectory, TapeFile};
 use feed_conf::{Conf, PeerConf};
 use feed_ends::{FeedEnd, FileError, Source};
-use feeder::{Feeder, FeederFault, PeerTarget, Spool, SpoolTally, UnreadPaths};
+use feeder::{Feeder, FeederFault, PeerTarget, Spool, SpoolTally, Suspects, UnreadPaths};
 use flusher::{
     Blanks, FeederShare, Flusher, Free, IntakeShare, Naming, NoThread, Post, PostFault, PostPeer,
     Signals, run_threads,
@@ -82,6 +83,7 @@ struct Feeding<S> {
     hosts: Vec<Host>,
     spools: (Spool<S>, Spool<S>),
     tally: Arc<SpoolTally>,
+    suspects: Arc<Suspects>,
     // Whether they leave idle connections.
     is_lasting: bool,
     // Whether they drop each article that is missing.
@@ -251,7 +253,16 @@ fn feed_open<
     let is_lasting = stop.is_some();
     let taking = taking_of(env, backlogs, places, &confs, funnel, stop, keeper)?;
     let start = taking.start;
-    let feeding = feeding_of(env, places, &confs, is_lasting, drops_missing, start)?;
+    let suspects = suspects_of(env.rt, env.files, backlogs.path, &confs)?;
+    let feeding = feeding_of(
+        env,
+        places,
+        &confs,
+        suspects,
+        is_lasting,
+        drops_missing,
+        start,
+    )?;
     let prepared = Prepared { feeding, taking };
     let others = prepared.taking.keeper.left_out();
     log_strangers(env.rt, env.files, &places.directory, &confs, others);
@@ -277,6 +288,7 @@ fn feeding_of<R: Clock + Log, F: AllocGlobal, S: Drop, H: Spools<Store = S>, C, 
     env: &RunEnv<'_, R, F, H, C, L>,
     places: &Places,
     peers: &[PeerConf],
+    suspects: Suspects,
     is_lasting: bool,
     drops_missing: bool,
     start: Instant,
@@ -295,6 +307,7 @@ fn feeding_of<R: Clock + Log, F: AllocGlobal, S: Drop, H: Spools<Store = S>, C, 
         hosts: hosts_of(alloc, peers)?,
         spools: (open_spool(env, path)?, open_spool(env, path)?),
         tally: Arc::new(alloc, SpoolTally::new(alloc, path, peers.len())?)?,
+        suspects: Arc::new(alloc, suspects)?,
         is_lasting,
         drops_missing,
         start,
@@ -393,6 +406,7 @@ fn work<
     )?;
     let Prepared { feeding, taking } = prepared;
     let tally = Arc::try_clone(&feeding.tally)?;
+    let suspects = Arc::try_clone(&feeding.suspects)?;
     let feeders = feeders_of(env, feeding, (one, other))?;
     let taker = (share, acknowledged);
     run_workers(
@@ -404,6 +418,7 @@ fn work<
         taking,
         taker,
         &tally,
+        &suspects,
         out,
         end,
     );
@@ -430,6 +445,7 @@ fn run_workers<
     taking: Taking<'_, F>,
     (share, acknowledged): (IntakeShare<N>, u64),
     tally: &SpoolTally,
+    suspects: &Suspects,
     out: &mut W,
     end: &mut FeedEnd,
 ) {
@@ -483,6 +499,7 @@ fn run_workers<
     let signals = Signals::new();
     let feeders = (first, second);
     let ended = run_threads(env.rt, post, &signals, feeders, flusher, &mut intake, &Free);
+    keep_all(env.rt, env.files, backlogs.path, suspects);
     let IntakeWorker {
         status,
         stop,
@@ -524,6 +541,7 @@ fn feeders_of<
         hosts,
         spools,
         tally,
+        suspects,
         is_lasting,
         drops_missing,
         start,
@@ -531,12 +549,13 @@ fn feeders_of<
     let resolver = Resolver::start(env.rt, alloc, hosts, env.look_up)?;
     let (hosts, others) = (resolver.try_clone()?, resolver.try_clone()?);
     let (one, other) = (Arc::try_clone(&tally)?, tally);
+    let (suspects, same) = (Arc::try_clone(&suspects)?, suspects);
     let mut first = Feeder::new(
-        alloc, env.net, hosts, spools.0, one, 0, targets.0, start, shares.0,
+        alloc, env.net, hosts, spools.0, one, suspects, 0, targets.0, start, shares.0,
     )
     .map_err(|error| lacking(env.rt, &error))?;
     let mut second = Feeder::new(
-        alloc, env.net, others, spools.1, other, 1, targets.1, start, shares.1,
+        alloc, env.net, others, spools.1, other, same, 1, targets.1, start, shares.1,
     )
     .map_err(|error| lacking(env.rt, &error))?;
     first.is_lasting = is_lasting;

@@ -1,3 +1,5 @@
+pub mod Blame
 pub mod Dropped
 pub mod Missing
 pub mod Slots
+pub mod Suspects

@@ -1,15 +1,11 @@
 // Why a connection closed, in words.
+use crate::descriptors::{LackedBy, lack_of};
+use crate::line_head::SHOWN_MAX_OCTETS;
 use conn_core::Reason;
 use reply_reader::Reply;
 use std::alloc::Global;
 use std::fmt::{self, Display, Formatter, Write};
 use std::io;
-
-// How many octets of what a peer sent are logged.
-const SHOWN_MAX_OCTETS: usize = 80;
-
-// EMFILE and ENFILE (errno(3)): the process, or the whole system, has no descriptor left.
-const NO_DESCRIPTOR_ERRNOS: [i32; 2] = [24, 23];
 
 /// What a feeder saw of a connection's end, besides the reason for which it closed.
 #[derive(Drop)]
@@ -32,8 +28,8 @@ pub(crate) enum ObservedEnd {
 }
 
 impl ObservedEnd {
-    /// Some of these octets are no reply. The first line that does not begin with three digits is kept, or else the
-    /// first octets.
+    /// Some of these octets, the first of which begins a line, are no reply. The first line that does not begin with
+    /// three digits is kept, or else the first octets.
     pub fn invalid_reply(alloc: Global, octets: &[u8]) -> Self {
         let line = octets
             .split(|octet| *octet == b'\n')
@@ -49,17 +45,14 @@ impl ObservedEnd {
     pub fn is_of_system(&self) -> bool {
         match self {
             ObservedEnd::NoSpool => true,
-            ObservedEnd::Unread(Some(error)) => match error.raw_os_error() {
-                Some(code) => NO_DESCRIPTOR_ERRNOS.contains(&code),
-                None => false,
-            },
+            ObservedEnd::Unread(Some(error)) => lack_of(error).is_some(),
             _ => false,
         }
     }
 }
 
-// Whether a line begins with three digits.
-fn begins_with_code(line: &[u8]) -> bool {
+/// Whether a line begins with three digits.
+pub(crate) fn begins_with_code(line: &[u8]) -> bool {
     match line.get(..3) {
         Some(code) => code.iter().all(|octet| octet.is_ascii_digit()),
         None => false,
@@ -105,9 +98,10 @@ pub(crate) struct CloseReason<'a> {
 impl Display for CloseReason<'_> {
     fn fmt<W: Write>(&self, f: &mut Formatter<W>) -> fmt::Result {
         match (self.ended, self.reason) {
-            (ObservedEnd::Unread(Some(error)), _) => {
-                write!(f, "the article cannot be read: {error}")
-            }
+            (ObservedEnd::Unread(Some(error)), _) => match lack_of(error) {
+                Some(lacked) => write!(f, "{}", LackedBy { lacked, error }),
+                None => write!(f, "the article cannot be read: {error}"),
+            },
             (ObservedEnd::Unread(None), _) => f.write_str("the article cannot be read"),
             (ObservedEnd::NoSpool, _) => f.write_str("the news-spool directory is missing"),
             (ObservedEnd::NoneFound, _) => f.write_str("news-spool has none of its articles"),

@@ -82,8 +82,7 @@ impl<S: SpoolDirectory + Drop, C: Net + Drop, N: Naming> Feeder<S, C, N> {
             if self.is_drained(now.seconds) {
                 return Ok(());
             }
-            if last_phase && self.is_done(&view)? {
-                self.log_given_up(rt, &view);
+            if last_phase && self.ends_last_phase(rt, &view)? {
                 return Ok(());
             }
             if self.awaits_flush() || self.take_half_full(&view) {
@@ -240,6 +239,7 @@ impl<S: SpoolDirectory + Drop, C: Net + Drop, N: Naming> Feeder<S, C, N> {
             peer,
             spool: &mut self.spool,
             tally: &self.tally,
+            suspects: &self.suspects,
             drops_missing: self.drops_missing,
             buffer: &mut self.buffer,
             share: &mut self.share,
@@ -301,10 +301,7 @@ impl<S: SpoolDirectory + Drop, C: Net + Drop, N: Naming> Feeder<S, C, N> {
         }
         for key in 0..self.connections.capacity() {
             let is_of_peer = match self.connections.get(key) {
-                Some(connection) => match self.slots.get(connection.slot()) {
-                    Some(slot) => slot.target() == at,
-                    None => false,
-                },
+                Some(connection) => self.is_to_peer(connection, at),
                 None => false,
             };
             if is_of_peer {
@@ -328,7 +325,7 @@ impl<S: SpoolDirectory + Drop, C: Net + Drop, N: Naming> Feeder<S, C, N> {
     }
 
     /// Drops a connection, or leaves that to the next turn if its peer's front is in use. What it may still hold is
-    /// ready again. Its slot waits, unless the connection ended in good order or failed at a debt.
+    /// ready again. Its slot waits, unless the connection ended in good order or is retried.
     pub(crate) fn remove<D: Disk, R: Wait + Log, P: Pace>(
         &mut self,
         rt: &R,
@@ -360,7 +357,7 @@ impl<S: SpoolDirectory + Drop, C: Net + Drop, N: Naming> Feeder<S, C, N> {
         if !connection.is_made() {
             self.unmade(view, connection.slot(), last_phase);
         } else if let Some(slot) = self.slots.get_mut(connection.slot()) {
-            let is_retried = connection.is_failed_at_debt()
+            let is_retried = connection.is_retried()
                 && self
                     .peers
                     .get_mut(slot.target())
@@ -395,11 +392,101 @@ impl<S: SpoolDirectory + Drop, C: Net + Drop, N: Naming> Feeder<S, C, N> {
         }
         for at in 0..self.peers.len() {
             let peer = &self.peers[at];
-            if !peer.is_closed && !self.is_given_up(at) && !view.all_later(peer.target.peer)? {
+            if peer.is_closed || self.is_given_up(at) {
+                continue;
+            }
+            if self.awaits_suspects(at) || !view.all_later(peer.target.peer)? {
                 return Ok(false);
             }
         }
         Ok(true)
+    }
+
+    // Whether in the last stage a suspect of this peer may still be offered by this feeder: it has a connection, or may
+    // be given one.
+    fn awaits_suspects(&self, at: usize) -> bool {
+        let Some(peer) = self.peers.get(at) else {
+            return false;
+        };
+        let awaits_look_up = peer.asked.is_some()
+            && peer.target.addresses.is_empty()
+            && !peer.is_unknown;
+        peer.is_last_stage
+            && self.suspects.has_pending(peer.target.peer)
+            && (self.checks_slots || awaits_look_up || self.has_connection(at))
+    }
+
+    fn has_connection(&self, at: usize) -> bool {
+        self.connections
+            .iter()
+            .any(|(_, one)| self.is_to_peer(one, at))
+    }
+
+    // Whether this connection is one to this peer.
+    fn is_to_peer(&self, connection: &PeerConnection, at: usize) -> bool {
+        match self.slots.get(connection.slot()) {
+            Some(slot) => slot.target() == at,
+            None => false,
+        }
+    }
+
+    // Begins the last stage for each peer for which it is due. If nothing is left to do, logs which peers are given up,
+    // and returns true.
+    fn ends_last_phase<D: Disk, R: Wait + Log, P: Pace>(
+        &mut self,
+        rt: &R,
+        view: &PostView<'_, D, N, P>,
+    ) -> Result<bool, FeederFault> {
+        self.begin_last_stages(view)?;
+        if !self.is_done(view)? {
+            return Ok(false);
+        }
+        self.log_given_up(rt, view);
+        Ok(true)
+    }
+
+    fn begin_last_stages<D: Disk, P: Pace>(
+        &mut self,
+        view: &PostView<'_, D, N, P>,
+    ) -> Result<(), FeederFault> {
+        for at in 0..self.peers.len() {
+            if self.is_last_stage_due(view, at)? {
+                self.begin_last_stage(at);
+            }
+        }
+        Ok(())
+    }
+
+    // Whether a suspect of an earlier run of this peer was not offered yet, nothing of the peer is ready or held, no
+    // connection to it is to be serviced, and it is not given up.
+    fn is_last_stage_due<D: Disk, P: Pace>(
+        &self,
+        view: &PostView<'_, D, N, P>,
+        at: usize,
+    ) -> Result<bool, FeederFault> {
+        let Some(peer) = self.peers.get(at) else {
+            return Ok(false);
+        };
+        let is_out = peer.is_last_stage || peer.is_closed || self.is_given_up(at);
+        if is_out || !self.suspects.has_pending(peer.target.peer) || self.is_at_work(at) {
+            return Ok(false);
+        }
+        view.all_later(peer.target.peer)
+    }
+
+    // Whether a connection to this peer holds a debt or is to be serviced.
+    fn is_at_work(&self, at: usize) -> bool {
+        self.connections.iter().any(|(_, one)| {
+            self.is_to_peer(one, at) && (one.holds_debts() || one.needs_service())
+        })
+    }
+
+    fn begin_last_stage(&mut self, at: usize) {
+        if let Some(peer) = self.peers.get_mut(at) {
+            peer.is_last_stage = true;
+        }
+        self.checks_slots = true;
+        self.mark_all_dirty();
     }
 
     // Whether in the last phase all its slots of this peer are given up.

@@ -2,18 +2,23 @@
 //!
 //! May touch sockets, the clock, a store of articles, the resolver, and the stations of a post, and wait for their
 //! locks.
-//! The crates above make a [`Feeder`] for each thread, which share a [`SpoolTally`], and run it as a
+//! The crates above make a [`Feeder`] for each thread, which share a [`SpoolTally`] and [`Suspects`], and run it as a
 //! [`flusher::Work`]; connection k of each peer belongs to feeder k mod 2. What is decided apart from sockets has
-//! contracts: when a slot is tried again ([`Slot`]), at which address ([`PeerTarget`]), how long a feeder sleeps, and
-//! which missing article is dropped. Connections and links have theirs in `conn_core` and `event_loop`.
+//! contracts: when a slot is tried again ([`Slot`]), at which address ([`PeerTarget`]), how long a feeder sleeps, which
+//! missing article is dropped, at which debt a connection failed, and when a suspect is offered. Connections and links
+//! have theirs in `conn_core` and `event_loop`.
 #![tactic(auto)]
 
+mod blame;
 mod close_reason;
 mod connecting;
+mod descriptors;
 mod drop_count;
 mod fault;
 mod feeder;
 mod feeder_turns;
+mod last_stage;
+mod line_head;
 mod logging;
 mod missing;
 mod peer_connection;
@@ -25,6 +30,8 @@ mod shutdown;
 mod slot;
 mod spool;
 mod spool_tally;
+mod suspect_list;
+mod suspects;
 mod target;
 mod unread_paths;
 mod uptime;
@@ -35,5 +42,6 @@ pub use feeder::Feeder;
 pub use slot::Slot;
 pub use spool::Spool;
 pub use spool_tally::SpoolTally;
+pub use suspects::Suspects;
 pub use target::PeerTarget;
 pub use unread_paths::UnreadPaths;

@@ -1,11 +1,12 @@
 // What a feeder logs of its connections.
 use crate::close_reason::CloseReason;
+use crate::descriptors::{LackedBy, lack_of};
 use crate::drop_count::{DropCount, DroppedArticle, PeerDrops};
 use crate::peer_connection::PeerConnection;
 use crate::peer_state::PeerState;
 use article_store::Unsendable;
 use conn_core::{Mode, Reason};
-use funnel::{PeerName, Token};
+use funnel::{MsgId, PeerName, Token};
 use log::{Log, info, warn};
 use std::fmt::{self, Display, Formatter, Write};
 use std::net::SocketAddr;
@@ -70,10 +71,23 @@ pub(crate) fn log_over<R: Log>(rt: &R, name: &str, connection: &PeerConnection) 
     }
 }
 
-/// A connection to a peer failed at the article under a token, which is offered again later. This is a warning: an
-/// administrator should look at an article that stops its peer again and again.
-pub(crate) fn log_postponed<R: Log>(rt: &R, name: &str, token: &Token, reason: CloseReason<'_>) {
-    warn!(rt; "{}: connection failed at {} ({}); put off", name, token_text(token), reason);
+/// A connection to a peer failed at this article, which is offered again later. This is a warning: an administrator
+/// should look at an article that stops its peer again and again.
+pub(crate) fn log_postponed<R: Log>(
+    rt: &R,
+    name: &str,
+    token: &Token,
+    id: &MsgId,
+    reason: CloseReason<'_>,
+) {
+    let (token, id) = (token_text(token), id_text(id));
+    warn!(rt; "{}: connection failed at {} {} ({}); put off", name, token, id, reason);
+}
+
+/// Connections to a peer failed at this article in an earlier run: it is offered after all others.
+pub(crate) fn log_suspect<R: Log>(rt: &R, name: &str, token: &Token, id: &MsgId) {
+    let (token, id) = (token_text(token), id_text(id));
+    info!(rt; "{}: connections failed at {} {} in an earlier run; put off", name, token, id);
 }
 
 /// A peer gets no more debts in this run.
@@ -156,8 +170,7 @@ impl Display for First<'_> {
         } else {
             ", the first "
         })?;
-        let id = str::from_utf8(first.id.bytes()).unwrap_or("");
-        write!(f, "{} {}", token_text(&first.token), id)?;
+        write!(f, "{} {}", token_text(&first.token), id_text(&first.id))?;
         match first.fault {
             Some(fault) => write!(f, " ({})", words_of(fault)),
             None => Ok(()),
@@ -191,15 +204,25 @@ pub(crate) fn log_none_found<R: Log>(rt: &R, path: &str, count: usize) {
 const CURE: &str =
     ": news-spool has to be the directory of the copies, not innd's spool; --expired drops what is missing";
 
-/// The article under a token can't be read from its file in the spool at this path.
+/// The article under a token can't be read from its file in the spool at this path. If there was no file descriptor
+/// left for it, that is said instead.
 pub(crate) fn log_unread<R: Log>(rt: &R, spool: &str, token: &Token, reason: Option<&io::Error>) {
-    match reason {
-        Some(error) => info!(rt; "cannot read {}/{}: {}", spool, token_text(token), error),
-        None => info!(rt; "cannot read {}/{}", spool, token_text(token)),
+    let token = token_text(token);
+    let Some(error) = reason else {
+        return info!(rt; "cannot read {}/{}", spool, token);
+    };
+    match lack_of(error) {
+        Some(lacked) => info!(rt; "{}", LackedBy { lacked, error }),
+        None => info!(rt; "cannot read {}/{}: {}", spool, token, error),
     }
 }
 
 // A token, which is ASCII.
 fn token_text(token: &Token) -> &str {
     str::from_utf8(token.bytes()).unwrap_or("")
+}
+
+// A message-id, which is ASCII.
+fn id_text(id: &MsgId) -> &str {
+    str::from_utf8(id.bytes()).unwrap_or("")
 }

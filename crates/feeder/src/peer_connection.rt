@@ -2,7 +2,10 @@
 ghost use Rattle.std.specs.Prelude.{◌≡◌, ◌<◌, ◌≤◌, ◌/◌};
 
 use crate::Spool;
-use crate::close_reason::{CloseReason, ObservedEnd, SessionStage};
+use crate::blame::{Blame, ConnectionEnd};
+use crate::close_reason::{CloseReason, ObservedEnd, SessionStage, begins_with_code};
+use crate::last_stage::failed_until;
+use crate::line_head::LineHead;
 use crate::logging::log_unread;
 use crate::peer_state::PeerState;
 use crate::setbacks::Failure;
@@ -11,11 +14,11 @@ use crate::unread_paths::UnreadPaths;
 use article_store::{Found, SpoolDirectory, StoreFault, Unsendable};
 use conn_core::{Conn, CxnId, Mode, Outcome, Ready, Reason};
 use event_loop::{Moved, SocketLink, put_out, take_in};
+use funnel::MsgId;
 use ledger_core::{Debt, Key};
 use log::Log;
 use mio::event::Event;
-use peer_queue::key_in;
-use std::alloc::Global;
+use std::alloc::{AllocError, Global};
 use std::io::{self, ErrorKind};
 use std::mem;
 use std::net::SocketAddr;
@@ -49,11 +52,11 @@ pub(crate) struct ConnectionOwner {
     pub room: u64,
 }
 
-// A debt that is to be put off once it comes back.
+// The debt at which a connection failed, and until when it is to be put off.
 #[derive(Clone, Copy)]
-struct Postponed {
+struct Judged {
     key: Key,
-    until: u64,
+    until: Option<u64>,
 }
 
 /// A connection of a feeder.
@@ -69,8 +72,10 @@ pub(crate) struct PeerConnection {
     failure: Option<io::Error>,
     // The socket has not been reported ready yet.
     is_connecting: bool,
-    // The peer has sent something that did not close it.
+    // The peer has sent a whole line that did not close it.
     has_greeted: bool,
+    // The beginning of the line that is not whole.
+    line_head: LineHead,
     agreed: Option<Mode>,
     // The feeder has asked for its end.
     is_left: bool,
@@ -79,9 +84,8 @@ pub(crate) struct PeerConnection {
     unread: Option<Key>,
     // Why articles cannot be sent that were handed in, until their debts are settled.
     unsendable: Vec<(Key, Unsendable)>,
-    // Whether a debt is to be put off was decided.
-    is_judged: bool,
-    postponed: Option<Postponed>,
+    // The debt at which it failed, once that came back.
+    judged: Option<Judged>,
     // Something happened on it, or may have: it needs service.
     is_dirty: bool,
     // Its peer's front was in use, or the tape that alone has a debt's texts.
@@ -116,13 +120,13 @@ impl PeerConnection {
             failure: None,
             is_connecting: true,
             has_greeted: false,
+            line_head: LineHead::new(alloc),
             agreed: None,
             is_left: false,
             ended: ObservedEnd::Unseen,
             unread: None,
             unsendable: Vec::new(alloc),
-            is_judged: false,
-            postponed: None,
+            judged: None,
             is_dirty: false,
             is_blocked: false,
             held: 0,
@@ -367,9 +371,22 @@ impl PeerConnection {
     // These octets were taken in.
     fn on_received(&mut self, octets: &[u8]) {
         match self.conn.closed() {
-            None => self.has_greeted = true,
-            Some(Reason::Reader(_)) => self.end(ObservedEnd::invalid_reply(self.alloc, octets)),
+            None => {
+                self.has_greeted = self.has_greeted || octets.contains(&b'\n');
+                self.line_head.add(octets);
+            }
+            Some(Reason::Reader(_)) => self.on_invalid(octets),
+            Some(Reason::Unmatched | Reason::Ended(_)) => self.has_greeted = true,
             Some(_) => {}
+        }
+    }
+
+    // It closed because some of these octets, or of the line that they end, are no reply. Nothing more is known if
+    // memory is refused.
+    fn on_invalid(&mut self, octets: &[u8]) {
+        if let Ok(text) = joined(self.alloc, self.line_head.octets(), octets) {
+            self.has_greeted = self.has_greeted || begins_with_reply(&text);
+            self.end(ObservedEnd::invalid_reply(self.alloc, &text));
         }
     }
 
@@ -434,53 +451,56 @@ impl PeerConnection {
         }
     }
 
-    /// Once it has closed, decides whether and until when the debt at which it failed is to be put off.
-    pub fn judge(&mut self, peer: &mut PeerState, now: u64) {
-        if self.is_judged || self.conn.closed().is_none() {
-            return;
+    /// Whether it closed and failed at this debt, which came back.
+    pub fn is_failed_at(&self, debt: &Debt) -> bool {
+        if let Some(judged) = self.judged {
+            return judged.key == debt.key();
         }
-        self.is_judged = true;
-        if let Some((key, failure)) = self.suspect()
-            && let Some(wait) = peer.setbacks.wait_after(key, failure)
-        {
-            let until = now.saturating_add(wait);
-            self.postponed = Some(Postponed { key, until });
+        match self.conn_end().blame() {
+            Blame::Nobody => false,
+            Blame::Debt { key, .. } => key == debt.key(),
+            Blame::Named => self
+                .named()
+                .is_some_and(|id| id.bytes() == debt.id().bytes()),
         }
     }
 
-    // The key of the debt at which it failed, and how it failed. None if it failed at no debt, or was left.
-    fn suspect(&self) -> Option<(Key, Failure)> {
-        if self.is_left || self.ended.is_of_system() {
-            return None;
+    /// It failed at the debt of this key, which came back. Returns until when the debt is to be put off, if it is.
+    pub fn judge(&mut self, key: Key, peer: &mut PeerState, now: u64) -> Option<u64> {
+        if let Some(judged) = self.judged {
+            return judged.until;
         }
-        if let Some(key) = self.unread {
-            return Some((key, Failure::AtDebt));
-        }
-        let failure = match self.conn.closed()? {
-            Reason::Unmatched => Failure::AtDebt,
-            Reason::Broken | Reason::Reader(_) | Reason::Timeout => Failure::Broke,
-            Reason::Greeting(_) | Reason::Ended(_) | Reason::Quit => return None,
+        let wait = match self.conn_end().blame() {
+            Blame::Nobody => None,
+            Blame::Debt { failure, .. } => peer.setbacks.wait_after(key, failure),
+            Blame::Named => peer.setbacks.wait_after(key, Failure::AtDebt),
         };
-        let key = self.conn.first_unanswered()?;
-        Some((key, failure))
+        let until = failed_until(now, wait, peer.is_last_stage);
+        self.judged = Some(Judged { key, until });
+        until
     }
 
-    /// Until when the debt of this outcome is to be put off, if the connection failed at it.
-    pub fn postponed(&self, outcome: &Outcome) -> Option<u64> {
-        let postponed = self.postponed?;
-        let is_back = matches!(outcome, Outcome::Back(_));
-        if is_back && postponed.key == key_in(outcome) {
-            Some(postponed.until)
-        } else {
-            None
+    // The message-id in the reply that closed it.
+    fn named(&self) -> Option<&MsgId> {
+        self.conn.refused()?.id.as_ref()
+    }
+
+    // What is known of its end.
+    fn conn_end(&self) -> ConnectionEnd {
+        ConnectionEnd {
+            reason: self.conn.closed(),
+            is_by_us: self.is_left || self.ended.is_of_system(),
+            is_without_spool: self.is_without_spool(),
+            has_agreed: self.agreed.is_some(),
+            names_id: self.named().is_some(),
+            unread: self.unread,
+            unanswered: self.conn.first_unanswered(),
         }
     }
 
-    /// Whether it failed at a debt and not because of its host or the spool: its peer had answered a command about a
-    /// debt as it should.
-    pub fn is_failed_at_debt(&self) -> bool {
-        let is_at_debt = matches!(self.suspect(), Some((_, Failure::AtDebt)));
-        is_at_debt && !self.is_without_spool() && self.conn.has_answered()
+    /// Whether its slot is tried again at once, as long as its peer has retries left.
+    pub fn is_retried(&self) -> bool {
+        self.conn_end().is_retried()
     }
 
     /// Whether it was broken because the spool has none of its articles.
@@ -600,6 +620,21 @@ impl PeerConnection {
                 }
             }
         }
+    }
+}
+
+// The one after the other.
+fn joined(alloc: Global, first: &[u8], second: &[u8]) -> Result<Vec<u8>, AllocError> {
+    let mut text = Vec::from_slice(alloc, first)?;
+    text.extend_from_slice(second)?;
+    Ok(text)
+}
+
+// Whether the first line of this text is whole and may be a reply.
+fn begins_with_reply(text: &[u8]) -> bool {
+    match text.split(|octet| *octet == b'\n').next() {
+        Some(line) => line.len() < text.len() && begins_with_code(line),
+        None => false,
     }
 }
 

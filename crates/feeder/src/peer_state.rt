@@ -3,7 +3,8 @@ use crate::PeerTarget;
 use crate::setbacks::Setbacks;
 use std::alloc::Global;
 
-// How often in a run a peer's slots are tried again at once, after a connection that failed at a debt.
+// How often in a run a peer's slots are tried again at once, after a connection that failed once its peer had agreed to
+// a mode.
 const RETRIES_MAX: u64 = 8;
 
 /// A peer, as one feeder works for it.
@@ -19,6 +20,8 @@ pub(crate) struct PeerState {
     pub is_unknown: bool,
     /// It gets no more debts in this run: its tape failed, or the spool is missing.
     pub is_closed: bool,
+    /// All else of it is done, and its suspects of earlier runs are offered, each once.
+    pub is_last_stage: bool,
     // How often its connections may still be tried again at once.
     retries: u64,
 }
@@ -34,11 +37,12 @@ impl PeerState {
             asked: None,
             is_unknown: false,
             is_closed: false,
+            is_last_stage: false,
             retries,
         }
     }
 
-    /// Whether a slot may be tried again at once, after a connection that failed at a debt. Uses up one retry.
+    /// Whether a slot may be tried again at once, after a connection that failed. Uses up one retry.
     pub fn take_retry(&mut self) -> bool {
         let is_left = self.retries > 0;
         self.retries = self.retries.saturating_sub(1);

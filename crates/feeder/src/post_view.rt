@@ -16,7 +16,7 @@ pub(crate) struct PostView<'a, D: Disk, N: Naming, P: Pace> {
     pub who: Who,
     /// The time, in seconds since the run began.
     pub now: u64,
-    /// Debts that wait up to this time are offered ([`due_at`](crate::missing::due_at)).
+    /// Before the last stage, debts that wait up to this time are offered ([`due_at`](crate::missing::due_at)).
     pub due: u64,
     /// Until when a missing article that is kept is put off.
     pub kept_until: u64,
@@ -28,7 +28,7 @@ pub(crate) struct PostView<'a, D: Disk, N: Naming, P: Pace> {
 }
 
 impl<D: Disk, N: Naming, P: Pace> PostView<'_, D, N, P> {
-    /// The least debt of the peer that can be offered now. This connection holds it from then on.
+    /// The least debt of the peer that is ready or waits up to `due` at most. This connection holds it from then on.
     ///
     /// # Errors
     /// The post's fault: `Busy` if only the tape has its texts, and the tape is in use. `NoPeer`.
@@ -37,11 +37,12 @@ impl<D: Disk, N: Naming, P: Pace> PostView<'_, D, N, P> {
         rt: &R,
         peer: usize,
         connection: CxnId,
+        due: u64,
     ) -> Result<Option<Debt>, FeederFault> {
         if peer >= self.post.peers() {
             return Err(FeederFault::NoPeer);
         }
-        Ok(self.post.try_claim(rt, peer, connection, self.due)?)
+        Ok(self.post.try_claim(rt, peer, connection, due)?)
     }
 
     /// Takes to the station what became of a debt that this connection held.

@@ -2,19 +2,20 @@
 ghost use Rattle.std.specs.Prelude.{◌≡◌, IfOk};
 
 use crate::drop_count::DroppedArticle;
-use crate::logging::{log_kept, log_missing, log_postponed, log_unsendable, text_of};
+use crate::last_stage::{ClaimStep, claim_step, claimed_due};
+use crate::logging::{log_kept, log_missing, log_postponed, log_suspect, log_unsendable, text_of};
 use crate::missing::{Step, step_of};
 use crate::peer_connection::PeerConnection;
 use crate::peer_state::PeerState;
 use crate::post_view::{PostView, is_busy, is_full};
 use crate::spool_tally::SpoolRule;
 use crate::unread_paths::UnreadPaths;
-use crate::{FeederFault, Spool, SpoolTally};
+use crate::{FeederFault, Spool, SpoolTally, Suspects};
 use article_store::SpoolDirectory;
 use conn_core::Outcome;
 use disk_model::Disk;
 use flusher::{FeederShare, Naming, Pace};
-use funnel::{MsgId, PeerName, Token};
+use funnel::{MsgId, Token};
 use ledger_core::{Cause, Debt};
 use log::Log;
 use peer_queue::key_in;
@@ -34,6 +35,7 @@ pub(crate) struct ServiceEnv<'a, S, N: Naming> {
     pub peer: &'a mut PeerState,
     pub spool: &'a mut Spool<S>,
     pub tally: &'a SpoolTally,
+    pub suspects: &'a Suspects,
     /// Whether all articles that are missing are dropped ([`SpoolRule`]).
     pub drops_missing: bool,
     pub buffer: &'a mut [u8],
@@ -61,12 +63,28 @@ pub(crate) fn service<D: Disk, N: Naming, S: SpoolDirectory, R: Wait + Log, P: P
     };
     connection.clear_marks();
     connection.receive(env.buffer);
-    settle(connection, rt, view, env.peer, rule, env.share)?;
+    settle(
+        connection,
+        rt,
+        view,
+        env.peer,
+        env.suspects,
+        rule,
+        env.share,
+    )?;
     if connection.has_kept_outcome() {
         let _ = connection.send();
     } else {
         fill_and_send(connection, rt, view, rule, env)?;
-        settle(connection, rt, view, env.peer, rule, env.share)?;
+        settle(
+            connection,
+            rt,
+            view,
+            env.peer,
+            env.suspects,
+            rule,
+            env.share,
+        )?;
     }
     Ok(())
 }
@@ -81,16 +99,16 @@ pub(crate) fn settle<D: Disk, N: Naming, R: Wait + Log, P: Pace>(
     rt: &R,
     view: &PostView<'_, D, N, P>,
     peer: &mut PeerState,
+    suspects: &Suspects,
     rule: SpoolRule<'_>,
     share: &mut FeederShare<N>,
 ) -> Result<(), FeederFault> {
-    connection.judge(peer, view.now);
     for _ in 0..u64::MAX {
         let Some(outcome) = connection.next_outcome() else {
             return Ok(());
         };
         if let Err((outcome, fault)) = settle_one(
-            connection, rt, view, peer, rule, share, outcome,
+            connection, rt, view, peer, suspects, rule, share, outcome,
         ) {
             connection.keep(outcome);
             return retry_later(connection, fault);
@@ -106,11 +124,12 @@ fn settle_one<D: Disk, N: Naming, R: Wait + Log, P: Pace>(
     rt: &R,
     view: &PostView<'_, D, N, P>,
     peer: &mut PeerState,
+    suspects: &Suspects,
     rule: SpoolRule<'_>,
     share: &mut FeederShare<N>,
     outcome: Outcome,
 ) -> Result<(), (Outcome, FeederFault)> {
-    let postponed = connection.postponed(&outcome);
+    let postponed = judge(connection, rt, peer, suspects, view.now, &outcome);
     match step_of(
         outcome,
         postponed,
@@ -123,6 +142,7 @@ fn settle_one<D: Disk, N: Naming, R: Wait + Log, P: Pace>(
             let key = debt.key();
             lose(connection, rt, view, rule, share, debt, cause)?;
             peer.setbacks.forget(key);
+            suspects.forget(rt, connection.peer(), key);
             Ok(())
         }
         Step::Finish(outcome) => {
@@ -131,10 +151,33 @@ fn settle_one<D: Disk, N: Naming, R: Wait + Log, P: Pace>(
             view.finish(rt, connection.peer(), connection.id(), outcome, share)?;
             if is_end {
                 peer.setbacks.forget(key);
+                suspects.forget(rt, connection.peer(), key);
             }
             Ok(())
         }
     }
+}
+
+// Until when the debt of this outcome is to be put off, because the connection failed at it; `None` if it is not. In
+// both cases such a debt is a suspect from then on, unless only the spool is at fault.
+fn judge<R: Wait>(
+    connection: &mut PeerConnection,
+    rt: &R,
+    peer: &mut PeerState,
+    suspects: &Suspects,
+    now: u64,
+    outcome: &Outcome,
+) -> Option<u64> {
+    let Outcome::Back(debt) = outcome else {
+        return None;
+    };
+    if !connection.is_failed_at(debt) {
+        return None;
+    }
+    if !connection.is_without_spool() {
+        suspects.add(rt, connection.peer(), debt);
+    }
+    connection.judge(debt.key(), peer, now)
 }
 
 // Drops a debt whose article is missing or cannot be sent, logs that, and counts it.
@@ -209,11 +252,11 @@ fn put_off<D: Disk, N: Naming, R: Wait + Log, P: Pace>(
     debt: Debt,
     until: u64,
 ) -> Result<(), (Outcome, FeederFault)> {
-    let token: Result<Token, AllocError> = debt.token().clone();
+    let texts = texts_of(&debt);
     match view.put_off(rt, connection.peer(), connection.id(), debt, until) {
         Ok(()) => {
-            if let Ok(token) = token {
-                log_put_off(connection, rt, &peer.target.name, &token);
+            if let Ok((token, id)) = texts {
+                log_put_off(connection, rt, peer, &token, &id);
             }
             Ok(())
         }
@@ -221,12 +264,19 @@ fn put_off<D: Disk, N: Naming, R: Wait + Log, P: Pace>(
     }
 }
 
-// The article under this token was put off after the connection closed.
-fn log_put_off<R: Log>(connection: &PeerConnection, rt: &R, name: &PeerName, token: &Token) {
+// The article with this token and message-id was put off after the connection closed.
+fn log_put_off<R: Log>(
+    connection: &PeerConnection,
+    rt: &R,
+    peer: &PeerState,
+    token: &Token,
+    id: &MsgId,
+) {
     if connection.is_without_spool() {
         log_kept(rt, token);
     } else {
-        log_postponed(rt, text_of(name), token, connection.close_reason());
+        let name = text_of(&peer.target.name);
+        log_postponed(rt, name, token, id, connection.close_reason());
     }
 }
 
@@ -251,7 +301,7 @@ fn fill_and_send<D: Disk, N: Naming, S: SpoolDirectory, R: Wait + Log, P: Pace>(
     let mut sent = 0u64;
     for _ in 0..ROUNDS_MAX {
         if !env.peer.is_closed {
-            offer(connection, rt, view)?;
+            offer(connection, rt, view, env)?;
         }
         if !connection.hand_in(rt, env.spool, rule, env.unread) {
             env.peer.is_closed = env.gives_up;
@@ -268,21 +318,81 @@ fn fill_and_send<D: Disk, N: Naming, S: SpoolDirectory, R: Wait + Log, P: Pace>(
     Ok(())
 }
 
-// Claims debts and offers them, while the connection takes them and none was refused.
-fn offer<D: Disk, N: Naming, R: Wait, P: Pace>(
+// Claims debts and offers them, while the connection takes them and none was refused. In the last stage one is offered
+// at a time, so that it is known at which one a connection fails.
+fn offer<D: Disk, N: Naming, S, R: Wait + Log, P: Pace>(
     connection: &mut PeerConnection,
     rt: &R,
     view: &PostView<'_, D, N, P>,
+    env: &ServiceEnv<'_, S, N>,
 ) -> Result<(), FeederFault> {
+    let is_last_stage = env.peer.is_last_stage;
+    let due = claimed_due(view.due, is_last_stage);
     for _ in 0..u64::MAX {
         if !view.claims || connection.has_kept_outcome() || !connection.is_ready() {
             return Ok(());
         }
-        match view.claim(rt, connection.peer(), connection.id()) {
-            Ok(Some(debt)) => connection.offer(debt),
-            Ok(None) => return Ok(()),
+        if is_last_stage && connection.holds_debts() {
+            return Ok(());
+        }
+        match view.claim(rt, connection.peer(), connection.id(), due) {
+            Ok(Some(debt)) => offer_or_put_off(connection, rt, view, env, debt)?,
+            Ok(None) => {
+                if is_last_stage {
+                    env.suspects.end_pending(rt, connection.peer());
+                }
+                return Ok(());
+            }
             Err(fault) => return retry_later(connection, fault),
         }
     }
     Ok(())
+}
+
+// Offers a debt that was claimed, or puts it off.
+fn offer_or_put_off<D: Disk, N: Naming, S, R: Wait + Log, P: Pace>(
+    connection: &mut PeerConnection,
+    rt: &R,
+    view: &PostView<'_, D, N, P>,
+    env: &ServiceEnv<'_, S, N>,
+    debt: Debt,
+) -> Result<(), FeederFault> {
+    let (suspects, peer) = (env.suspects, connection.peer());
+    let is_suspect = suspects.is_pending(rt, peer, &debt);
+    let is_lasting = !env.gives_up;
+    match claim_step(view.now, is_suspect, is_lasting, env.peer.is_last_stage) {
+        ClaimStep::Offer => {
+            if is_suspect {
+                suspects.meet(rt, peer, &debt);
+            }
+            connection.offer(debt);
+            Ok(())
+        }
+        ClaimStep::PutOff { until } => {
+            if is_suspect {
+                log_suspect(rt, text_of(&env.peer.target.name), debt.token(), debt.id());
+            }
+            if is_suspect && is_lasting {
+                suspects.meet(rt, peer, &debt);
+            }
+            put_off_claimed(connection, rt, view, debt, until)
+        }
+    }
+}
+
+// Puts off a debt that was claimed. If that is refused, the debt is ready again.
+fn put_off_claimed<D: Disk, N: Naming, R: Wait, P: Pace>(
+    connection: &mut PeerConnection,
+    rt: &R,
+    view: &PostView<'_, D, N, P>,
+    debt: Debt,
+    until: u64,
+) -> Result<(), FeederFault> {
+    match view.put_off(rt, connection.peer(), connection.id(), debt, until) {
+        Ok(()) => Ok(()),
+        Err((debt, fault)) => {
+            connection.keep(Outcome::Back(debt));
+            retry_later(connection, fault)
+        }
+    }
 }

@@ -94,7 +94,15 @@ impl<S: SpoolDirectory + Drop, C: Net + Drop, N: Naming> Feeder<S, C, N> {
                 drops_missing: self.drops_missing,
                 is_lasting: self.is_lasting,
             };
-            let _ = settle(connection, rt, view, peer, rule, &mut self.share);
+            let _ = settle(
+                connection,
+                rt,
+                view,
+                peer,
+                &self.suspects,
+                rule,
+                &mut self.share,
+            );
         }
     }
 }
