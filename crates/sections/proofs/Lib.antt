@@ -1,0 +1,6 @@
+pub mod AtTapes
+pub mod AtStations
+pub mod AtPosts
+pub mod OverRuns
+pub mod Lines
+pub mod Rows

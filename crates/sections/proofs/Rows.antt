@@ -1,0 +1,227 @@
+-- Worked runs, computed: of a post of one station whose tapes are empty, none of whose sections writes to a disk; and a
+-- receipt that has counted a station.
+use Rattle.std.proofs.Common.{◌≡◌, ◌<◌, ℕ, zero, suc, true, false, None, Some, [], ◌∷◌, refl, subst, arith}
+use Rattle.std.specs.Prelude.{codes}
+use Rattle.std.specs.List.{slice_get}
+use Rattle.disk_model.specs.Disk.Event.{Made}
+use Rattle.ledger_core.specs.State.{start}
+use Rattle.ledger_core.specs.WrittenLaws.{whole-start}
+use Rattle.ledger_core.specs.declared.note.Note.{Note}
+use Rattle.ledger_core.specs.declared.note.Note.TheVariants.{Owe}
+use Rattle.recovery.specs.Leaving.{IsPrefix}
+use Rattle.recovery.specs.Notes.{History, begun, noted}
+use Rattle.recovery.specs.Pairs.LeavesPair.{at_start}
+use Rattle.sections.specs.Laws.{AllAreRecovered, IsBegun}
+use Rattle.sections.specs.Post.{PostPast, SealingPast, StationPast, with_station}
+use Rattle.sections.specs.Sections.{IsReopened, IsStopped, Runs, begun_at, opened}
+use Rattle.sections.specs.Sections.Does.{At_station, Intake_is_opened, Is_begun, Is_counted, Is_due}
+use Rattle.sections.specs.Sections.Does.{Is_shown, Is_stopped, Was_sealed}
+use Rattle.sections.specs.Sections.OfStation.{Is_noted, Is_opened, Is_pulled, Is_sent}
+use Rattle.sections.specs.Sections.Runs.{Next, Start}
+use Rattle.sections.specs.Sections.Section.{Begins, Counts, Dues, Notes, Opens, Opens_intake, Pulls}
+use Rattle.sections.specs.Sections.Section.{Seals, Sends, Shows, Stops}
+use Rattle.sections.specs.Sound.{HasSeen, IsSafe, IsSound}
+use Rattle.sections.specs.TapeLaws.{no_notes, nothing_left, nothing_lies}
+use Rattle.sections.specs.Tapes.{IsAcknowledgedBy, TapePast}
+use Rattle.sections.proofs.Lines.{sealed_stand}
+use Rattle.sections.proofs.OverRuns.{begins, recover_all, run_keeps}
+
+-- ---- a post is made; a flush of all finds nothing; a line is taken, and is in no flush before the machine stops
+
+abbrev tape : TapePast
+tape = record { history = begun; log = ([], []); faults = (0, 0); broken = false }
+
+abbrev made : PostPast
+made = record { stations = opened tape ∷ []; intake = tape; intake_runs = true; last = 0; sealings = [] }
+
+made_begun : IsBegun made
+made_begun = record {
+  stations = (record { all = refl; kept = refl; left = nothing_left (IsPrefix begun) no_notes }, tt);
+  legal = tt;
+  within = omega arith;
+  last = refl;
+  none = refl;
+  left = nothing_left (IsPrefix begun) no_notes;
+}
+
+abbrev line : Note
+line = Owe 1 (codes "a/1") (codes "<x@y>")
+
+-- the receipt of the flush, which has counted the station
+abbrev receipt : SealingPast
+receipt = record { number = 0; counted = 1; due = None }
+
+abbrev sealed : PostPast
+sealed = record made { sealings = receipt ∷ [] }
+
+sealed_run : Runs made (Begins ∷ Dues 0 ∷ Counts 0 ∷ Seals 0 ∷ []) sealed
+sealed_run =
+    Next (Begins ∷ Dues 0 ∷ Counts 0 ∷ []) (Seals 0) sealed sealed
+    (Next (Begins ∷ Dues 0 ∷ []) (Counts 0) _ sealed
+    (Next (Begins ∷ []) (Dues 0) _ _
+    (Next [] Begins made _ Start (Is_begun refl))
+    (Is_due 0 (begun_at 0) (opened tape) refl refl))
+    (Is_counted 0 0 (record { number = 0; counted = 0; due = Some 0 }) (opened tape) refl refl refl (omega arith)))
+    (Was_sealed 0 receipt refl (omega arith) (omega arith))
+
+-- the line's note at the front, in the queue, and on the tape
+abbrev front : StationPast
+front = record (opened tape) { unsent = line ∷ [] }
+
+abbrev queued : StationPast
+queued = record (opened tape) { queue = line ∷ [] }
+
+abbrev tape_taken : TapePast
+tape_taken = record tape { history = noted begun line }
+
+abbrev station_taken : StationPast
+station_taken = record (opened tape) { tape = tape_taken }
+
+abbrev taken : PostPast
+taken = record sealed { stations = station_taken ∷ []; last = 1 }
+
+taken_run : Runs sealed (Notes 0 line ∷ Sends 0 ∷ Pulls 0 ∷ Shows ∷ []) taken
+taken_run =
+    Next (Notes 0 line ∷ Sends 0 ∷ Pulls 0 ∷ []) Shows _ taken
+    (Next (Notes 0 line ∷ Sends 0 ∷ []) (Pulls 0) (with_station sealed 0 queued) _
+    (Next (Notes 0 line ∷ []) (Sends 0) (with_station sealed 0 front) _
+    (Next [] (Notes 0 line) sealed _ Start
+    (At_station (Notes 0 line) 0 (opened tape) front refl (Is_noted 0 line refl refl (omega arith))))
+    (At_station (Sends 0) 0 front queued refl (Is_sent 0 line [] refl)))
+    (At_station (Pulls 0) 0 queued station_taken refl (Is_pulled 0 line [] refl refl)))
+    (Is_shown refl)
+
+-- the stop: the disks are still empty, so the opening finds no note
+abbrev left_of : TapePast → TapePast
+left_of tape = record tape { log = (Made [] ∷ [], Made [] ∷ []) }
+
+stops : (history : History)
+    → IsStopped (record tape { history = history }) (left_of (record tape { history = history }))
+stops history = record {
+  left = record { one = []; other = []; first = refl; second = refl; all = refl };
+  all = refl;
+}
+
+abbrev stopped_station : StationPast
+stopped_station =
+    record { tape = left_of tape_taken; queue = []; unsent = []; settled = 0; cut_off = false; runs = false }
+
+abbrev stopped : PostPast
+stopped =
+    record { stations = stopped_station ∷ []; intake = left_of tape; intake_runs = false; last = 1; sealings = [] }
+
+no_note_there : IsPrefix (noted begun line) start
+no_note_there = record {
+  count = 0;
+  enough = omega arith;
+  within = omega arith;
+  legal = record { whole = whole-start; notes_are = tt; legal = tt };
+  is = refl;
+}
+
+station_opens : IsReopened (left_of tape_taken) (left_of tape)
+station_opens = record {
+  state = start;
+  prefix = record {
+    count = 0;
+    enough = omega arith;
+    within = omega arith;
+    legal = record { whole = whole-start; notes_are = tt; legal = tt };
+    is = refl;
+  };
+  found = nothing_lies;
+  moments = at_start (nothing_left (IsPrefix (noted begun line)) no_note_there);
+  left = nothing_left (IsPrefix begun) no_notes;
+  all = refl;
+}
+
+intake_opens : IsReopened (left_of tape) (left_of tape)
+intake_opens = record {
+  state = start;
+  prefix = record {
+    count = 0;
+    enough = omega arith;
+    within = omega arith;
+    legal = record { whole = whole-start; notes_are = tt; legal = tt };
+    is = refl;
+  };
+  found = nothing_lies;
+  moments = at_start (nothing_left (IsPrefix begun) no_notes);
+  left = nothing_left (IsPrefix begun) no_notes;
+  all = refl;
+}
+
+abbrev restarted : PostPast
+restarted = record {
+  stations = opened (left_of tape) ∷ [];
+  intake = left_of tape;
+  intake_runs = true;
+  last = 0;
+  sealings = [];
+}
+
+restarted_run : Runs taken (Stops ∷ Opens 0 ∷ Opens_intake ∷ []) restarted
+restarted_run =
+    Next (Stops ∷ Opens 0 ∷ []) Opens_intake _ restarted
+    (Next (Stops ∷ []) (Opens 0) stopped _
+    (Next [] Stops taken stopped Start
+    (Is_stopped (stopped_station ∷ []) (left_of tape)
+    (record { tape = stops (noted begun line); all = refl }, tt) (stops begun)))
+    (At_station (Opens 0) 0 stopped_station (opened (left_of tape)) refl
+    (Is_opened 0 (left_of tape) refl station_opens)))
+    (Intake_is_opened (left_of tape) refl intake_opens)
+
+-- the laws' premises are met: after each of the three runs the post is sound and safe, and the tape is recovered
+all_sound : IsSound restarted × IsSafe restarted
+all_sound =
+    let first = begins made made_begun in
+    let second = run_keeps made sealed _ first.0 first.1 sealed_run in
+    let third = run_keeps sealed taken _ second.0 second.1 taken_run in
+    run_keeps taken restarted _ third.0 third.1 restarted_run
+
+recovered_here : AllAreRecovered made sealed
+recovered_here =
+    let first = begins made made_begun in
+    recover_all made sealed _ first.0 first.1 sealed_run
+
+-- a stop may leave the mark 0 on the intake's tape
+mark_there : IsAcknowledgedBy tape 0
+mark_there = record { seen = start; may = ([], [], refl, refl, nothing_lies); below = omega arith }
+
+-- ---- a receipt of the number 5 has counted a station, all of whose notes are acknowledged
+
+abbrev kept_station : StationPast
+kept_station = opened (record tape { history = record { base = start; notes = line ∷ []; kept = 1; opened = 0 } })
+
+abbrev counted : PostPast
+counted = record {
+  stations = kept_station ∷ [];
+  intake = tape;
+  intake_runs = true;
+  last = 5;
+  sealings = record { number = 5; counted = 1; due = None } ∷ [];
+}
+
+counted_sound : IsSound counted
+counted_sound = record {
+  stations = (record { within = omega arith; settled = omega arith }, tt);
+  legal = tt;
+  within = omega arith;
+  marked = omega arith;
+  acknowledged = (tt, tt);
+  sealings = (record { below = omega arith; seen = seen }, tt);
+}
+  where
+    seen : (rank : ℕ) (station : StationPast)
+        → slice_get (kept_station ∷ []) rank ≡ Some station
+        → HasSeen (record { number = 5; counted = 1; due = None }) rank station
+    seen zero station here =
+        let is : kept_station ≡ station = cc in
+        subst (HasSeen (record { number = 5; counted = 1; due = None }) 0) is
+        (record { counted = λ before. tt; due = λ next count is. absurd cc })
+    seen (suc rank) station here = absurd cc
+
+line_stands : 0 < 1
+line_stands =
+    sealed_stand counted counted_sound 0 0 0 1 (record { number = 5; counted = 1; due = None }) kept_station
+    (codes "a/1") (codes "<x@y>") refl (omega arith) (omega arith) refl refl

@@ -1,0 +1,53 @@
+-- What holds of a post between any two sections.
+use Rattle.std.specs.Prelude.{◌≡◌, ◌<◌, ◌≤◌, ℕ, Some, List, drop, length, slice_get}
+use Rattle.std.specs.List.{AllByRecursion}
+use Rattle.ledger_core.specs.State.{AllLegal, State}
+use Rattle.recovery.specs.Leaving.{EachLedger, IsPrefix}
+use Rattle.sections.specs.Post.{PostPast, SealingPast, StationPast, front_history, notes_of}
+use Rattle.sections.specs.Tapes.{AllAbove, KeepsLinesOf, PendsAbove, mark_at}
+
+-- each note that a line up to this number made is acknowledged: none pends on the tape, in the queue or at the front
+abbrev pub HasAcknowledged : ℕ → StationPast → Type 0
+HasAcknowledged mark station = PendsAbove mark (front_history station)
+
+pub record IsSoundStation (station : StationPast) : Type 0 where
+  pub within : station.tape.history.kept ≤ length station.tape.history.notes
+  pub settled : station.settled ≤ station.tape.history.kept
+
+-- What a sealing knows of the station at this rank. If the station is counted, all that lines up to the sealing's
+-- number made there is acknowledged. If it is the next one, and the sealing has looked at its front, no note behind
+-- those that were found there was made by such a line.
+pub record HasSeen (sealing : SealingPast) (rank : ℕ) (station : StationPast) : Type 0 where
+  pub counted : rank < sealing.counted → HasAcknowledged sealing.number station
+  pub due : rank ≡ sealing.counted → (count : ℕ) → sealing.due ≡ Some count
+      → AllAbove sealing.number (drop count (notes_of station))
+
+pub record IsSoundSealing (stations : List StationPast) (last : ℕ) (sealing : SealingPast) : Type 0 where
+  pub below : sealing.number ≤ last
+  pub seen : (rank : ℕ) (station : StationPast) → slice_get stations rank ≡ Some station → HasSeen sealing rank station
+
+-- The marks and numbers are in order; and what the intake's tape has noted, or a sealing has counted, is acknowledged
+-- at the stations.
+pub record IsSound (post : PostPast) : Type 0 where
+  pub stations : AllByRecursion IsSoundStation post.stations
+  pub legal : AllLegal post.intake.history.base post.intake.history.notes
+  pub within : post.intake.history.kept ≤ length post.intake.history.notes
+  pub marked : mark_at post.intake ≤ post.last
+  pub acknowledged : AllByRecursion (HasAcknowledged (mark_at post.intake)) post.stations
+  pub sealings : AllByRecursion (IsSoundSealing post.stations post.last) post.sealings
+
+-- ---- what a stop may leave
+
+-- a station's tape is that of a prefix of its notes, with every acknowledged one in it
+abbrev pub KeepsNotes : StationPast → State → Type 0
+KeepsNotes station state = IsPrefix station.tape.history state
+
+-- the same of the intake's tape; and each note that a line up to its mark made is acknowledged at its station
+abbrev pub KeepsLines : PostPast → State → Type 0
+KeepsLines post state = KeepsLinesOf front_history post.intake.history post.stations state
+
+-- the same of whatever a stop leaves now of each tape
+pub record IsSafe (post : PostPast) : Type 0 where
+  pub stations : AllByRecursion (λ (station : StationPast). EachLedger (KeepsNotes station) station.tape.log)
+      post.stations
+  pub intake : EachLedger (KeepsLines post) post.intake.log
