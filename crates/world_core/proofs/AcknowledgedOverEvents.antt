@@ -1,16 +1,15 @@
 -- What was acknowledged stays acknowledged over each event.
-use Rattle.std.proofs.Common.{◌≡◌, ℕ, zero, suc, ◌+◌, ◌-◌, ◌≤◌, Some, List, [], ◌∷◌}
-use Rattle.std.proofs.Common.{◌++◌, length, take, drop, refl, sym, ap, ◌∙◌, subst, arith, append_assoc}
-use Rattle.std.proofs.Common.{append-nil, take-append-drop}
+use Rattle.std.proofs.Common.{◌≡◌, ℕ, ◌+◌, Some, List, [], ◌∷◌, refl, sym, ap, ◌∙◌, subst}
 use Rattle.std.specs.List.{AllZip, slice_get}
-use Rattle.std.proofs.Math.Seq.{take-length}
-use Rattle.ledger_core.specs.declared.note.Note.{Note}
 use Rattle.ledger_core.specs.declared.note.Note.TheVariants.{Drop, Final, Owe}
 use Rattle.peer_queue.specs.Shed.{dropped}
 use Rattle.peer_queue.specs.declared.limits.Owed.{Owed}
 use Rattle.peer_queue.specs.declared.limits.Owed.TheVariants.{New, Already}
-use Rattle.recovery.specs.Notes.{History, flushed, noted_all, recovered}
-use Rattle.world_core.specs.Past.{Past, PeerPast, TapePast, with_peer}
+use Rattle.recovery.specs.Notes.{History}
+use Rattle.sections.specs.ListLaws.{zip_put, zip_same, zip_then}
+use Rattle.sections.specs.TapeLaws.{tape_flushed, tape_noted, tape_opened, tape_same, tape_then}
+use Rattle.sections.specs.Tapes.{TapePast}
+use Rattle.world_core.specs.Past.{Past, PeerPast, with_peer}
 use Rattle.world_core.specs.Events.{Acknowledges, Claims, Closes, Does, Event, Imports, Opens, OpensIntake, Owes, Parts}
 use Rattle.world_core.specs.Events.{Returns, Rotates, Sees, Settles, Sheds, Spills, closing, import_key, imported_as}
 use Rattle.world_core.specs.Events.{owed_as, owing_as, settled_as, settling}
@@ -18,78 +17,6 @@ use Rattle.peer_queue.specs.declared.settled.Settled.{Settled}
 use Rattle.peer_queue.specs.declared.settled.Settled.TheVariants.{Answered, Dropped, Later, Ready}
 use Rattle.peer_queue.specs.Settled.{key_in}
 use Rattle.world_core.specs.Keeping.{PeerStays, PeersStay}
-use Rattle.world_core.specs.Laws.{StaysAcknowledged}
-use Rattle.world_core.proofs.RelatedLists.{zip_put, zip_same, zip_then}
-
--- ---- one tape
-
-none_less : (n : ℕ) → 0 ≡ 0 - n
-none_less n = omega arith
-
-whole_less : (n : ℕ) → n ≡ n - 0
-whole_less n = omega arith
-
-both_less : (k n : ℕ) → k - n ≡ suc k - suc n
-both_less k n = omega arith
-
-take_less : {A : Type 0} (k : ℕ) (xs ys : List A) → take k (xs ++ ys) ≡ take k xs ++ take (k - length xs) ys
-take_less zero xs ys = ap (λ (n : ℕ). take n ys) (none_less (length xs))
-take_less (suc k) [] ys = ap (λ (n : ℕ). take n ys) (whole_less (suc k))
-take_less (suc k) (x ∷ xs) ys =
-    ap (λ l. x ∷ l) (take_less k xs ys ∙ ap (λ (n : ℕ). take k xs ++ take n ys) (both_less k (length xs)))
-
-take_twice : {A : Type 0} (k : ℕ) (xs : List A) → take k (take k xs) ≡ take k xs
-take_twice zero xs = refl
-take_twice (suc k) [] = refl
-take_twice (suc k) (x ∷ xs) = ap (λ l. x ∷ l) (take_twice k xs)
-
-take_up : {A : Type 0} (k n : ℕ) (xs : List A) → k ≤ n → take n xs ≡ take k xs ++ drop k (take n xs)
-take_up zero n xs le = refl
-take_up (suc k) zero xs le = absurd (omega (arith, le))
-take_up (suc k) (suc n) [] le = refl
-take_up (suc k) (suc n) (x ∷ xs) le = ap (λ l. x ∷ l) (take_up k n xs (omega (arith, le)))
-
-pub tape_same : (was now : TapePast) → now.history ≡ was.history → StaysAcknowledged was now
-tape_same was now same = record {
-  base = ap (λ (h : History). h.base) same;
-  more = [];
-  prefix = ap (λ (h : History). take h.kept h.notes) same
-      ∙ sym (append-nil (take was.history.kept was.history.notes));
-}
-
-pub tape_noted : (was now : TapePast) (notes : List Note) → now.history ≡ noted_all was.history notes
-    → StaysAcknowledged was now
-tape_noted was now notes is = record {
-  base = ap (λ (h : History). h.base) is;
-  more = _;
-  prefix = ap (λ (h : History). take h.kept h.notes) is ∙ take_less was.history.kept was.history.notes notes;
-}
-
-tape_flushed : (was now : TapePast) → now.history ≡ flushed was.history → StaysAcknowledged was now
-tape_flushed was now is = record {
-  base = ap (λ (h : History). h.base) is;
-  more = _;
-  prefix = ap (λ (h : History). take h.kept h.notes) is ∙ take-length was.history.notes
-      ∙ sym (take-append-drop was.history.kept was.history.notes);
-}
-
-tape_opened : (was now : TapePast) (count : ℕ) → was.history.kept ≤ count
-    → now.history ≡ recovered was.history count → StaysAcknowledged was now
-tape_opened was now count enough is = record {
-  base = ap (λ (h : History). h.base) is;
-  more = _;
-  prefix = ap (λ (h : History). take h.kept h.notes) is ∙ take_twice count was.history.notes
-      ∙ take_up was.history.kept count was.history.notes enough;
-}
-
-tape_then : (was mid now : TapePast) → StaysAcknowledged was mid → StaysAcknowledged mid now
-    → StaysAcknowledged was now
-tape_then was mid now first second = record {
-  base = second.base ∙ first.base;
-  more = first.more ++ second.more;
-  prefix = second.prefix ∙ ap (λ l. l ++ second.more) first.prefix
-      ∙ append_assoc (take was.history.kept was.history.notes) first.more second.more;
-}
 
 -- ---- all peers
 

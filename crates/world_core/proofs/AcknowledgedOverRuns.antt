@@ -1,13 +1,14 @@
 -- What was acknowledged stays acknowledged over any steps, taken or refused.
 use Rattle.std.proofs.Common.{◌≡◌, ℕ, false, Some, List, refl}
 use Rattle.std.specs.List.{slice_get}
-use Rattle.world_core.specs.Past.{Past, PeerPast, TapePast, with_peer, with_tape}
+use Rattle.sections.specs.TapeLaws.{tape_noted, tape_same}
+use Rattle.sections.specs.Tapes.{TapePast}
+use Rattle.world_core.specs.Past.{Past, PeerPast, with_peer, with_tape}
 use Rattle.world_core.specs.Events.{AllDo, Event}
 use Rattle.world_core.specs.Halts.{AtRest, ByChoice, Manner, left, left_peer}
 use Rattle.world_core.specs.Keeping.{PeerStays, PeersStay}
 use Rattle.world_core.specs.Laws.{AllStayAcknowledged, OverRuns}
-use Rattle.world_core.proofs.AcknowledgedOverEvents.{event_stays, one_changed, stay_same, stay_then, tape_noted}
-use Rattle.world_core.proofs.AcknowledgedOverEvents.{tape_same}
+use Rattle.world_core.proofs.AcknowledgedOverEvents.{event_stays, one_changed, stay_same, stay_then}
 use Rattle.world_core.proofs.WalkOverSteps.{comes_all, events_all}
 use Rattle.world_core.proofs.WalkOverTapes.{Keeper}
 use Rattle.world_core.proofs.RelatedLists.{zip_made}

@@ -15,6 +15,7 @@ use Rattle.conn_core.specs.History.{story}
 use Rattle.conn_core.specs.Stands.{StandsFor as ConnStands, Starts}
 use Rattle.conn_core.specs.declared.options.Options.{Options}
 use Rattle.peer_queue.specs.DebtPlace.{IsHeldBy}
+use Rattle.sections.specs.ListLaws.{all_push, all_weaker}
 use Rattle.world_core.specs.Past.{ConnPast, Life, PeerPast, conn_at, options_of, rank_of}
 use Rattle.world_core.specs.Exchange.{RefusesConnect, TakesConnect, fresh_conn}
 use Rattle.world_core.specs.Joined.{AreRunning, MadeOn, RefusedOn}
@@ -28,7 +29,7 @@ use Rattle.world_core.specs.declared.fault.Fault.TheVariants.{CountFull, NoMemor
 use Rattle.world_core.specs.declared.peer.Peer.{Peer}
 use Rattle.world_core.specs.declared.stations.Stations.{Stations}
 use Rattle.world_core.specs.declared.output.Output.{Output}
-use Rattle.world_core.proofs.MarksAndNotes.{all_push, all_weaker, zip_at}
+use Rattle.world_core.proofs.MarksAndNotes.{zip_at}
 use Rattle.world_core.proofs.RelatedLists.{zip_push}
 
 abbrev Entry : Type 0

@@ -14,7 +14,8 @@ use Rattle.conn_core.specs.declared.reason.Reason.TheVariants.{Broken, Ended, Ti
 use Rattle.peer_queue.specs.declared.limits.Limits.{Limits}
 use Rattle.peer_queue.specs.declared.settled.Settled.TheVariants.{Answered, Dropped, Later, Ready}
 use Rattle.recovery.specs.Notes.{begun as begun_history}
-use Rattle.world_core.specs.Past.{ConnPast, Life, Past, TapePast}
+use Rattle.sections.specs.Tapes.{TapePast}
+use Rattle.world_core.specs.Past.{ConnPast, Life, Past}
 use Rattle.world_core.specs.Events.{Settles}
 use Rattle.world_core.specs.Exchange.{TakesConnect, exchange_views, followed_up, fresh_conn, settled_out, unsettled}
 use Rattle.world_core.specs.Exchange.{waiting, with_transcript}

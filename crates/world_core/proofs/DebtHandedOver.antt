@@ -20,7 +20,8 @@ use Rattle.peer_queue.specs.ClaimLaws.{candidate_unheld}
 use Rattle.peer_queue.specs.Words.{IsRead, IsSameTape, ledger_of, places_of, tape_of}
 use Rattle.peer_queue.specs.declared.fault.StationFault.{StationFault}
 use Rattle.peer_queue.specs.declared.fault.StationFault.TheVariants.{NotHeld, Broken, Tape as TapeRefused, NoMemory}
-use Rattle.world_core.specs.Past.{ConnPast, PeerPast, TapePast, options_of, with_places, with_tape}
+use Rattle.sections.specs.Tapes.{TapePast}
+use Rattle.world_core.specs.Past.{ConnPast, PeerPast, options_of, with_places, with_tape}
 use Rattle.world_core.specs.Events.{RefusesClaim, claimed_peer}
 use Rattle.world_core.specs.Exchange.{ClaimsAt, FailsToHand, GivesBackAt, HandsOver, Has_no_room, Is_shut, None_there}
 use Rattle.world_core.specs.Exchange.{TakesHand, Taken_over, with_transcript}

@@ -4,6 +4,7 @@ use Rattle.std.proofs.Common.{◌∙◌, subst, inl, inr, arith, append_assoc, a
 use Rattle.std.proofs.lemmas.Bool.{cases_lt}
 use Rattle.std.specs.List.{slice_get}
 use Rattle.disk_model.specs.declared.Disk.{Ghosts}
+use Rattle.sections.specs.ListLaws.{get_left, get_within}
 use Rattle.world_core.specs.Past.{Past}
 use Rattle.world_core.specs.Events.{AllDo, Does, Event, Fails, Refuses, each_rank}
 use Rattle.world_core.specs.Events.AllDo.{Start, Next}
@@ -22,19 +23,9 @@ zero_more k = omega arith
 one_more : (n k : ℕ) → suc n + k ≡ suc (n + k)
 one_more n k = omega arith
 
-pub get_left : {A : Type 0} (xs ys : List A) (k : ℕ) (x : A) → slice_get xs k ≡ Some x → slice_get (xs ++ ys) k ≡ Some x
-get_left [] ys k x here = absurd cc
-get_left (y ∷ xs) ys zero x here = here
-get_left (y ∷ xs) ys (suc k) x here = get_left xs ys k x here
-
 pub get_right : {A : Type 0} (xs ys : List A) (k : ℕ) → slice_get (xs ++ ys) (length xs + k) ≡ slice_get ys k
 get_right [] ys k = ap (slice_get ys) (zero_more k)
 get_right (x ∷ xs) ys k = ap (slice_get (x ∷ (xs ++ ys))) (one_more (length xs) k) ∙ get_right xs ys k
-
-pub get_within : {A : Type 0} (xs : List A) (k : ℕ) (x : A) → slice_get xs k ≡ Some x → k < length xs
-get_within [] k x here = absurd cc
-get_within (y ∷ xs) zero x here = omega arith
-get_within (y ∷ xs) (suc k) x here = omega (arith, get_within xs k x here)
 
 pub take_left : {A : Type 0} (xs ys : List A) (k : ℕ) → k ≤ length xs → take k (xs ++ ys) ≡ take k xs
 take_left xs ys zero within = refl

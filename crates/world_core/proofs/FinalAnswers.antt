@@ -26,7 +26,9 @@ use Rattle.peer_queue.specs.declared.limits.Owed.TheVariants.{Already, New}
 use Rattle.peer_queue.specs.declared.settled.Settled.{Settled}
 use Rattle.peer_queue.specs.declared.settled.Settled.TheVariants.{Answered, Dropped, Later, Ready}
 use Rattle.recovery.specs.Notes.{History}
-use Rattle.world_core.specs.Past.{ConnPast, Life, Past, PeerPast, TapePast, conn_at, limits_of, options_of, with_peer}
+use Rattle.sections.specs.ListLaws.{contains_first, contains_more, contains_taken}
+use Rattle.sections.specs.Tapes.{TapePast}
+use Rattle.world_core.specs.Past.{ConnPast, Life, Past, PeerPast, conn_at, limits_of, options_of, with_peer}
 use Rattle.world_core.specs.Past.{with_tape}
 use Rattle.world_core.specs.Events.{Acknowledges, Claims, Closes, Does, Event, Imports, IsCandidate, Opens}
 use Rattle.world_core.specs.Events.{OpensIntake, Owes, Parts, Returns, Rotates, Sees, Settles, Sheds, Spills, closing}
@@ -47,12 +49,11 @@ use Rattle.world_core.specs.declared.step.Step.{Step}
 use Rattle.world_core.specs.declared.step.Step.TheVariants.{Hand, Tick}
 use Rattle.world_core.proofs.ConnectionMade.{at_last}
 use Rattle.world_core.proofs.TranscriptsGrow.{Grew, accepted_offered, ends_grew, grew_same, grew_then}
-use Rattle.world_core.proofs.HeldNumbers.{contains_first, contains_more}
 use Rattle.world_core.proofs.PairInWorld.{once, put_other}
 use Rattle.world_core.proofs.PairGoesOn.{PairWent, Went, keeps_pair}
 use Rattle.world_core.proofs.PeerInWorld.{get_apart, get_set}
 use Rattle.world_core.proofs.MarksAndNotes.{last_all, prefix_all}
-use Rattle.world_core.proofs.RecoveredNotes.{comes_safe, comes_sound, contains_taken}
+use Rattle.world_core.proofs.RecoveredNotes.{comes_safe, comes_sound}
 use Rattle.world_core.proofs.WalkOverSteps.{Passage, refuses_make, takes_make}
 use Rattle.world_core.proofs.WalkOverTapes.{Keeper, OnTape}
 

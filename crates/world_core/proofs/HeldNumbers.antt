@@ -13,17 +13,12 @@ use Rattle.conn_core.specs.declared.options.Options.{Options}
 use Rattle.conn_core.specs.declared.outcome.Outcome.{Outcome}
 use Rattle.peer_queue.specs.DebtPlace.{DebtPlace, IsHeldBy, Places, gone, moved, place_at}
 use Rattle.peer_queue.specs.Settled.{key_in}
+use Rattle.sections.specs.ListLaws.{contains_first, contains_more}
 use Rattle.world_core.specs.Past.{ConnPast}
 use Rattle.world_core.specs.Exchange.{all_out, one_out, out_to, unsettled, waiting}
 use Rattle.world_core.specs.Sound.{numbers_at}
 
 -- ---- the elements of a list
-
-pub contains_first : {X : Type 0} (xs : List X) (x : X) → Contains (x ∷ xs) x
-contains_first xs x = (0, omega arith, refl)
-
-pub contains_more : {X : Type 0} (xs : List X) (x y : X) → Contains xs y → Contains (x ∷ xs) y
-contains_more xs x y has = (suc has.0, omega (arith, has.1), has.2)
 
 pub contains_left : {X : Type 0} (xs ys : List X) (x : X) → Contains xs x → Contains (xs ++ ys) x
 contains_left [] ys x (k, below, is) = absurd (omega (arith, below))

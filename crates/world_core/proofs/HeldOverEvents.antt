@@ -7,7 +7,9 @@ use Rattle.peer_queue.specs.DebtPlace.{AreUnheld, Held, IsHeldBy, IsUnheld, Plac
 use Rattle.peer_queue.specs.DebtPlace.{with_place}
 use Rattle.peer_queue.specs.declared.limits.Owed.{Owed}
 use Rattle.peer_queue.specs.declared.limits.Owed.TheVariants.{New, Already}
-use Rattle.world_core.specs.Past.{Past, PeerPast, TapePast, with_peer, with_tape}
+use Rattle.sections.specs.ListLaws.{zip_put, zip_same, zip_then}
+use Rattle.sections.specs.Tapes.{TapePast}
+use Rattle.world_core.specs.Past.{Past, PeerPast, with_peer, with_tape}
 use Rattle.world_core.specs.Events.{Acknowledges, Claims, Closes, Does, Event, Imports, Opens, OpensIntake, Owes, Parts}
 use Rattle.world_core.specs.Events.{Returns, Rotates, Sees, Settles, Sheds, Spills, closing, import_key, imported_as}
 use Rattle.world_core.specs.Events.{owed_as, owing_as, parted}
@@ -16,7 +18,7 @@ use Rattle.world_core.specs.Tapes.{noted_at}
 use Rattle.world_core.proofs.HeldNumbers.{gone_none, gone_other}
 use Rattle.world_core.proofs.DebtPlaces.{with_here, with_other}
 use Rattle.world_core.proofs.WalkOverTapes.{Keeper, OnTape}
-use Rattle.world_core.proofs.RelatedLists.{zip_made, zip_put, zip_same, zip_then}
+use Rattle.world_core.proofs.RelatedLists.{zip_made}
 
 -- ---- one peer
 

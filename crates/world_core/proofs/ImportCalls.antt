@@ -23,7 +23,8 @@ use Rattle.recovery.specs.LeavingLaws.{pends_by}
 use Rattle.recovery.specs.Notes.{History, flushed, ledger_after, most_pending, noted}
 use Rattle.recovery.specs.Words.{ledger_of, pending_of}
 use Rattle.recovery.specs.declared.fault.TapeFault.TheVariants.{Broken}
-use Rattle.world_core.specs.Past.{Past, PeerPast, TapePast, ledger_at, rank_of, with_peer, with_tape}
+use Rattle.sections.specs.Tapes.{TapePast, ledger_at}
+use Rattle.world_core.specs.Past.{Past, PeerPast, rank_of, with_peer, with_tape}
 use Rattle.world_core.specs.Events.{Closes, Does, Event, Imports, Refuses, RefusesAt, Spills, closing, import_key}
 use Rattle.world_core.specs.Events.{import_mark_at, open_source, owing_as}
 use Rattle.world_core.specs.Events.AllDo.{Start}

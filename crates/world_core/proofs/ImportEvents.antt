@@ -3,10 +3,10 @@ use Rattle.std.proofs.Common.{ℕ, Bool, true, false, List, [], ◌∷◌, ◌++
 use Rattle.std.specs.Prelude.{◌==◌, if◌then◌else◌, nat_lt}
 use Rattle.std.specs.List.{AllByRecursion}
 use Rattle.recovery.specs.Notes.{most_pending}
+use Rattle.sections.specs.ListLaws.{both_all}
 use Rattle.world_core.specs.Events.{Closes, Event, Imports, Spills}
 use Rattle.world_core.specs.Imports.{Good, import_events, good_events, mark_behind, pending_behind}
 use Rattle.world_core.specs.Imports.{room_events}
-use Rattle.world_core.proofs.MarksAndNotes.{both_all}
 
 -- what holds of each kind of them holds of all
 module _ (P : Event → Type 0) (rank : ℕ) (spills : P (Spills rank)) (closes : P (Closes rank))

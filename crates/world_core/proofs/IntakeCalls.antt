@@ -14,7 +14,8 @@ use Rattle.recovery.specs.declared.fault.TapeFault.{TapeFault}
 use Rattle.recovery.specs.declared.fault.TapeFault.TheVariants.{Damaged, Disk, Broken, TapeFull, GenerationFull}
 use Rattle.recovery.specs.declared.fault.TapeFault.TheVariants.{PendingFull, NoMemory, Note}
 use Rattle.recovery.specs.declared.tape.Tape.{Tape}
-use Rattle.world_core.specs.Past.{Past, TapePast, with_intake}
+use Rattle.sections.specs.Tapes.{TapePast}
+use Rattle.world_core.specs.Past.{Past, with_intake}
 use Rattle.world_core.specs.Safe.{KeepsLines}
 use Rattle.world_core.specs.Tapes.{MayFlush}
 use Rattle.world_core.specs.Events.{Acknowledges}

@@ -17,7 +17,8 @@ use Rattle.recovery.specs.declared.fault.TapeFault.{TapeFault}
 use Rattle.recovery.specs.declared.fault.TapeFault.TheVariants.{Damaged, Disk, Broken, TapeFull, GenerationFull}
 use Rattle.recovery.specs.declared.fault.TapeFault.TheVariants.{PendingFull, NoMemory, Note as RefusedNote}
 use Rattle.recovery.specs.declared.tape.Tape.{Tape}
-use Rattle.world_core.specs.Past.{Past, TapePast, mark_at, with_intake}
+use Rattle.sections.specs.Tapes.{TapePast, mark_at}
+use Rattle.world_core.specs.Past.{Past, with_intake}
 use Rattle.world_core.specs.Tapes.{RefusesNote, noted_at}
 use Rattle.world_core.specs.Events.{Sees, seen}
 use Rattle.world_core.specs.Fault.{fault_of}

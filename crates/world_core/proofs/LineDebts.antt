@@ -11,7 +11,9 @@ use Rattle.ledger_core.specs.State.{State}
 use Rattle.peer_queue.specs.declared.limits.Owed.TheVariants.{New, Already}
 use Rattle.recovery.specs.Leaving.{IsPrefix}
 use Rattle.recovery.specs.LeavingLaws.{EachLedger-weaker, LedgersLeave-weaker}
-use Rattle.world_core.specs.Past.{Armed, Life, Past, PeerPast, mark_at, with_last, with_past}
+use Rattle.sections.specs.ListLaws.{all_at}
+use Rattle.sections.specs.Tapes.{mark_at}
+use Rattle.world_core.specs.Past.{Armed, Life, Past, PeerPast, with_last, with_past}
 use Rattle.world_core.specs.Events.{AllDo, Does, Event, Owes, calls_disk, owed_as, owing_as}
 use Rattle.world_core.specs.Events.AllDo.{Start, Next}
 use Rattle.world_core.specs.Laws.{Comes, IsRecovered, OverRuns, StillOwes}
@@ -26,7 +28,7 @@ use Rattle.world_core.specs.Steps.{reading_plan}
 use Rattle.world_core.specs.Output.{View}
 use Rattle.world_core.specs.declared.step.Step.{Step}
 use Rattle.world_core.specs.declared.step.Step.TheVariants.{Line}
-use Rattle.world_core.proofs.AcknowledgedLines.{all_at, lines_stand}
+use Rattle.world_core.proofs.AcknowledgedLines.{lines_stand}
 use Rattle.world_core.proofs.LineAtNamedPeers.{length_more}
 use Rattle.world_core.proofs.Moments.{moments_recovered, not_none}
 use Rattle.world_core.proofs.RecoveredNotes.{recover_all}

@@ -13,7 +13,9 @@ use Rattle.peer_queue.specs.declared.limits.Owed.{Owed}
 use Rattle.peer_queue.specs.declared.limits.Owed.TheVariants.{New, Already}
 use Rattle.peer_queue.specs.declared.settled.Settled.{Settled}
 use Rattle.peer_queue.specs.declared.settled.Settled.TheVariants.{Answered, Dropped, Later, Ready}
-use Rattle.world_core.specs.Past.{Past, PeerPast, TapePast, mark_at, with_peer, with_places, with_tape}
+use Rattle.sections.specs.ListLaws.{zip_put, zip_same, zip_weaker}
+use Rattle.sections.specs.Tapes.{TapePast, mark_at}
+use Rattle.world_core.specs.Past.{Past, PeerPast, with_peer, with_places, with_tape}
 use Rattle.world_core.specs.Safe.{IsSafe, KeepsLines, KeepsNotes}
 use Rattle.world_core.specs.Events.{Acknowledges, AllDo, Claims, Closes, Does, Event, Imports, Opens, OpensIntake, Owes}
 use Rattle.world_core.specs.Events.{Parts, Refuses, Returns, Rotates, Sees, Settles, Sheds, Spills, import_key}
@@ -30,7 +32,7 @@ use Rattle.world_core.proofs.AcknowledgedOverEvents.{peer_same, stay_same, stay_
 use Rattle.world_core.proofs.RecoveredNotes.{comes_safe, still_owes}
 use Rattle.world_core.proofs.AcknowledgedOverRuns.{all_stay, events_stay}
 use Rattle.world_core.proofs.SoundOverEvents.{all_begun}
-use Rattle.world_core.proofs.RelatedLists.{zip_made, zip_put, zip_same, zip_weaker}
+use Rattle.world_core.proofs.RelatedLists.{zip_made}
 use Rattle.world_core.proofs.WalkOverTapes.{frame}
 
 -- ---- lists

@@ -13,7 +13,10 @@ use Rattle.recovery.specs.Tape.{IsOpenedTape, Recovers}
 use Rattle.recovery.specs.Words.{IsBroken, IsOpenFault, OneHasRisen, ledger_of, log_of, faults_of}
 use Rattle.recovery.specs.declared.fault.TapeFault.{TapeFault}
 use Rattle.recovery.specs.declared.fault.TapeFault.TheVariants.{Damaged, Disk}
-use Rattle.world_core.specs.Past.{Past, PeerPast, TapePast, mark_at, with_intake}
+use Rattle.sections.specs.ListLaws.{all_weaker}
+use Rattle.sections.specs.TapeLaws.{take_mark}
+use Rattle.sections.specs.Tapes.{TapePast, mark_at}
+use Rattle.world_core.specs.Past.{Past, PeerPast, with_intake}
 use Rattle.world_core.specs.Safe.{HasAcknowledged, IsSafe, KeepsLines}
 use Rattle.world_core.specs.Events.{AllDo, Event, Next, Opens, OpensIntake, Start, each_rank}
 use Rattle.world_core.specs.Fault.{fault_of}
@@ -32,7 +35,7 @@ use Rattle.world_core.specs.declared.stop.StopDisk.{StopDisk}
 use Rattle.world_core.proofs.TapesStopped.{left_sound, lines_left, safe_stopped}
 use Rattle.world_core.proofs.TapeOpened.{refused_why}
 use Rattle.world_core.proofs.PeerCalls.{not_true}
-use Rattle.world_core.proofs.MarksAndNotes.{acknowledged_less, all_weaker, keeps_lines, take_mark}
+use Rattle.world_core.proofs.MarksAndNotes.{acknowledged_less, keeps_lines}
 use Rattle.world_core.proofs.SoundOverEvents.{safe_of, sound_intake}
 use Rattle.world_core.proofs.PeersOpened.{get_at, long, take_places}
 

@@ -22,6 +22,7 @@ use Rattle.peer_queue.specs.declared.limits.Limits.{Limits}
 use Rattle.peer_queue.specs.declared.settled.Settled.{Settled}
 use Rattle.peer_queue.specs.declared.settled.Settled.TheVariants.{Answered, Dropped, Later, Ready as Back}
 use Rattle.peer_queue.specs.declared.station.Station.{Station}
+use Rattle.sections.specs.ListLaws.{contains_first}
 use Rattle.world_core.specs.Past.{ConnPast, PeerPast, options_of}
 use Rattle.world_core.specs.Events.{RefusesEnd, settled, settled_as, settling}
 use Rattle.world_core.specs.Exchange.{one_out, unsettled, waiting}
@@ -35,7 +36,7 @@ use Rattle.world_core.specs.declared.fault.Fault.{Fault}
 use Rattle.world_core.specs.declared.peer.Peer.{Peer}
 use Rattle.world_core.specs.declared.output.Output.{Output}
 use Rattle.world_core.specs.declared.output.Output.TheVariants.{Settled as OutputSettled}
-use Rattle.world_core.proofs.HeldNumbers.{contains_first, first_apart, gone_none, gone_other, held_less, moved_here}
+use Rattle.world_core.proofs.HeldNumbers.{first_apart, gone_none, gone_other, held_less, moved_here}
 use Rattle.world_core.proofs.HeldNumbers.{moved_other, next_gone, numbers_gone, numbers_wait, others_apart, outcomes_out}
 use Rattle.world_core.proofs.PeerOwes.{no_room_here, noted_tape, room_here, same_peer}
 use Rattle.world_core.proofs.PeerCalls.{tape_broken, tape_works}

@@ -7,7 +7,8 @@ use Rattle.conn_core.specs.Commands.{Handing}
 use Rattle.conn_core.specs.History.{Broke, Event as Happening, Handed, Offered, Tick as Ticked, after}
 use Rattle.conn_core.specs.Receipt.{Receives}
 use Rattle.conn_core.specs.declared.outcome.Outcome.{Outcome}
-use Rattle.world_core.specs.Past.{ConnPast, Life, PeerPast, TapePast, options_of}
+use Rattle.sections.specs.Tapes.{TapePast}
+use Rattle.world_core.specs.Past.{ConnPast, Life, PeerPast, options_of}
 use Rattle.world_core.specs.Events.{IsCandidate}
 use Rattle.world_core.specs.Exchange.{AllSettleAt, ClaimsAt, FailsToBreak, FailsToHand, FailsToOffer, FailsToRead}
 use Rattle.world_core.specs.Exchange.{FailsToSupply, FailsToTick, Follows, FollowsNot, GivesBackAt, HandsOver}

@@ -12,6 +12,7 @@ use Rattle.disk_model.specs.declared.Disk.{Ghosts}
 use Rattle.feed_conf.specs.declared.conf.PeerConf.{PeerConf}
 use Rattle.conn_core.specs.Stands.{Arises}
 use Rattle.peer_queue.specs.DebtPlace.{IsHeldBy}
+use Rattle.sections.specs.ListLaws.{all_at, all_set, all_weaker, zip_weaker}
 use Rattle.world_core.specs.Past.{ConnPast, Life, PeerPast, conn_at, options_of, with_conn, with_past, with_peer}
 use Rattle.world_core.specs.Joined.{AreRunning}
 use Rattle.world_core.specs.Pairs.{PairStands}
@@ -20,12 +21,10 @@ use Rattle.world_core.specs.Stands.{ConnectionStands, HoldsTranscript, PeerStand
 use Rattle.world_core.specs.declared.connection.Connection.{Connection}
 use Rattle.world_core.specs.declared.peer.Peer.{Peer}
 use Rattle.world_core.specs.declared.stations.Stations.{Stations}
-use Rattle.world_core.proofs.AcknowledgedLines.{all_at}
 use Rattle.world_core.proofs.PeerInWorld.{PeerKeeps, get_apart, get_set, sound_with}
 use Rattle.world_core.proofs.PairTied.{stands_arise}
-use Rattle.world_core.proofs.MarksAndNotes.{all_set, all_weaker, map_set, zip_at, zip_set}
+use Rattle.world_core.proofs.MarksAndNotes.{map_set, zip_at, zip_set}
 use Rattle.world_core.proofs.StationCalls.{WithPeer, stands_with}
-use Rattle.world_core.proofs.RelatedLists.{zip_weaker}
 
 -- ---- connections by their numbers
 

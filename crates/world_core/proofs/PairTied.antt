@@ -14,6 +14,7 @@ use Rattle.conn_core.specs.Used.{times}
 use Rattle.conn_core.specs.declared.options.Options.{Options}
 use Rattle.conn_core.specs.declared.outcome.Outcome.{Outcome}
 use Rattle.peer_queue.specs.DebtPlace.{IsHeldBy, place_at}
+use Rattle.sections.specs.ListLaws.{contains_first, contains_more}
 use Rattle.world_core.specs.Past.{ConnPast, PeerPast, options_of}
 use Rattle.world_core.specs.Exchange.{with_transcript}
 use Rattle.world_core.specs.Pairs.{IsTied, PairStands}
@@ -22,7 +23,7 @@ use Rattle.world_core.specs.Stands.{HoldsTranscript, WaitsWith}
 use Rattle.world_core.specs.declared.connection.Connection.{Connection}
 use Rattle.world_core.specs.declared.peer.Peer.{Peer}
 use Rattle.world_core.proofs.HeldOrOutcome.{GoesOn, goes_offered, outcomes_are, outcomes_offered, same_numbers}
-use Rattle.world_core.proofs.HeldNumbers.{contains_first, contains_less, contains_more}
+use Rattle.world_core.proofs.HeldNumbers.{contains_less}
 
 -- ---- how often each number occurs
 

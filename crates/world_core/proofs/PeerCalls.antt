@@ -19,9 +19,10 @@ use Rattle.peer_queue.specs.Words.{IsSame, tape_of}
 use Rattle.peer_queue.specs.declared.fault.StationFault.{StationFault}
 use Rattle.peer_queue.specs.declared.fault.StationFault.TheVariants.{NotHeld, Broken, Tape as TapeRefused, NoMemory}
 use Rattle.peer_queue.specs.declared.station.Station.{Station}
-use Rattle.world_core.specs.Past.{PeerPast, TapePast, with_tape}
+use Rattle.sections.specs.Tapes.{TapePast, Breaks, IsReadTape}
+use Rattle.world_core.specs.Past.{PeerPast, with_tape}
 use Rattle.world_core.specs.Safe.{KeepsNotes}
-use Rattle.world_core.specs.Tapes.{Breaks, IsFlushed, IsReadTape, MayFlush, RefusesFlush}
+use Rattle.world_core.specs.Tapes.{IsFlushed, MayFlush, RefusesFlush}
 use Rattle.world_core.specs.Fault.{fault_of_station}
 use Rattle.world_core.specs.Stands.{PeerStands, TapeStands}
 use Rattle.world_core.specs.declared.fault.Fault.{Fault}

@@ -14,7 +14,8 @@ use Rattle.peer_queue.specs.Faults.{IsOweFault, IsOweTapeFault}
 use Rattle.peer_queue.specs.Words.{IsSame, Notes, closing as closing_at, places_of, tape_of}
 use Rattle.peer_queue.specs.declared.fault.StationFault.{StationFault}
 use Rattle.peer_queue.specs.declared.fault.StationFault.TheVariants.{NotHeld, Broken, Tape as TapeRefused, NoMemory}
-use Rattle.world_core.specs.Past.{PeerPast, ledger_at}
+use Rattle.sections.specs.Tapes.{ledger_at}
+use Rattle.world_core.specs.Past.{PeerPast}
 use Rattle.world_core.specs.Tapes.{RefusesClose}
 use Rattle.world_core.specs.Events.{closing}
 use Rattle.world_core.specs.Fault.{fault_of, fault_of_station}

@@ -11,7 +11,8 @@ use Rattle.ledger_core.specs.Ledger.{totals_of}
 use Rattle.ledger_core.specs.declared.ledger.Totals.{Totals}
 use Rattle.peer_queue.specs.Words.{ledger_of}
 use Rattle.ledger_core.specs.State.{State}
-use Rattle.world_core.specs.Past.{Life, PeerPast, ledger_at}
+use Rattle.sections.specs.Tapes.{ledger_at}
+use Rattle.world_core.specs.Past.{Life, PeerPast}
 use Rattle.world_core.specs.Stands.{PeerStands, StageStands, WorldStands, counts_in, counts_of, counts_when}
 use Rattle.world_core.specs.declared.world.Stage.{Stage}
 use Rattle.world_core.specs.declared.world.Stage.TheVariants.{Running}

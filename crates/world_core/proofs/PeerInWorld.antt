@@ -19,9 +19,10 @@ use Rattle.peer_queue.specs.DebtPlace.{DebtPlace, Held, IsHeldBy, Later as Later
 use Rattle.peer_queue.specs.Settled.{key_in}
 use Rattle.peer_queue.specs.declared.settled.Settled.{Settled}
 use Rattle.peer_queue.specs.declared.settled.Settled.TheVariants.{Answered, Dropped, Later, Ready as Back}
-use Rattle.world_core.specs.Past.{ConnPast, Past, PeerPast, TapePast, mark_at, with_peer, with_tape}
-use Rattle.world_core.specs.Safe.{HasAcknowledged, IsAbove, IsSafe, KeepsLines, KeepsNotes}
-use Rattle.world_core.specs.Tapes.{IsReadTape}
+use Rattle.sections.specs.ListLaws.{all_at, all_set}
+use Rattle.sections.specs.Tapes.{TapePast, mark_at, IsAbove, IsReadTape}
+use Rattle.world_core.specs.Past.{ConnPast, Past, PeerPast, with_peer, with_tape}
+use Rattle.world_core.specs.Safe.{HasAcknowledged, IsSafe, KeepsLines, KeepsNotes}
 use Rattle.world_core.specs.Events.{settled_as, settling}
 use Rattle.world_core.specs.Exchange.{AllSettleAt, ClaimsAt, FailsToOffer}
 use Rattle.world_core.specs.Exchange.{GivesBackAt, HandsOver}
@@ -30,10 +31,9 @@ use Rattle.world_core.specs.Exchange.{Taken_over}
 use Rattle.world_core.specs.Sound.{HasParted, IsSound}
 use Rattle.world_core.specs.declared.fault.Fault.{Fault}
 use Rattle.world_core.specs.declared.output.Handed.{Handed as Handover}
-use Rattle.world_core.proofs.AcknowledgedLines.{all_at}
 use Rattle.world_core.proofs.EventLists.{take_left}
 use Rattle.world_core.proofs.HeldNumbers.{gone_none, moved_other}
-use Rattle.world_core.proofs.MarksAndNotes.{above_more, all_set}
+use Rattle.world_core.proofs.MarksAndNotes.{above_more}
 use Rattle.world_core.proofs.OutcomeSettled.{settled_conf, settled_others}
 use Rattle.world_core.proofs.SoundOverEvents.{names_set}
 

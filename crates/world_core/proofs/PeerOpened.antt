@@ -8,8 +8,10 @@ use Rattle.std.specs.List.{AllByRecursion, AllZip, slice_get}
 use Rattle.disk_model.specs.declared.Disk.{Ghosts}
 use Rattle.ledger_core.specs.State.{keys}
 use Rattle.peer_queue.specs.DebtPlace.{Held, Ready, all_ready, place_at}
-use Rattle.world_core.specs.Past.{Past, PeerPast, TapePast, ledger_at, with_peer, with_tape}
-use Rattle.world_core.specs.Safe.{IsAbove, IsSafe}
+use Rattle.sections.specs.ListLaws.{all_push}
+use Rattle.sections.specs.Tapes.{TapePast, ledger_at, IsAbove}
+use Rattle.world_core.specs.Past.{Past, PeerPast, with_peer, with_tape}
+use Rattle.world_core.specs.Safe.{IsSafe}
 use Rattle.world_core.specs.Events.{AllDo, Event, Next, Opens, OpensIntake, each_rank, opened_peer}
 use Rattle.world_core.specs.Halts.{AtRest, left_peer, restart_events}
 use Rattle.world_core.specs.Opening.{FailsAt, HasHalted, HasNoneHeld, HasOpened, HasTried, with_peers}
@@ -19,7 +21,6 @@ use Rattle.world_core.specs.declared.fault.Fault.{Fault}
 use Rattle.world_core.specs.declared.peer.Peer.{Peer}
 use Rattle.world_core.specs.declared.peer.StoppedPeer.{StoppedPeer}
 use Rattle.world_core.specs.declared.fault.Halt.{Halt}
-use Rattle.world_core.proofs.MarksAndNotes.{all_push}
 use Rattle.world_core.proofs.SoundOverEvents.{each_prefix, sound_same}
 use Rattle.world_core.proofs.PeersOpened.{get_at, get_rank, has_opened, length_push, length_set, safe_put, set_at}
 use Rattle.world_core.proofs.PeersOpened.{sound_opened, take_places}

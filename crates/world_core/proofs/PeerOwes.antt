@@ -28,7 +28,8 @@ use Rattle.peer_queue.specs.declared.fault.StationFault.TheVariants.{NotHeld, Br
 use Rattle.peer_queue.specs.declared.limits.Owed.{Owed}
 use Rattle.peer_queue.specs.declared.limits.Owed.TheVariants.{Already, New}
 use Rattle.peer_queue.specs.declared.station.Station.{Station}
-use Rattle.world_core.specs.Past.{PeerPast, TapePast, ledger_at}
+use Rattle.sections.specs.Tapes.{TapePast, ledger_at}
+use Rattle.world_core.specs.Past.{PeerPast}
 use Rattle.world_core.specs.Tapes.{HasRoom, RefusesOwe, noted_at}
 use Rattle.world_core.specs.Fault.{fault_of, fault_of_station}
 use Rattle.world_core.specs.Stands.{OwedNot, OwedTo, PeerStands, TapeStands}

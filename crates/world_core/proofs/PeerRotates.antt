@@ -23,8 +23,9 @@ use Rattle.peer_queue.specs.declared.limits.Limits.{Limits}
 use Rattle.peer_queue.specs.declared.limits.Shed.{Shed}
 use Rattle.peer_queue.specs.declared.station.Station.{Station}
 use Rattle.peer_queue.specs.ShedLaws.{shed_unheld}
-use Rattle.world_core.specs.Past.{PeerPast, TapePast, ledger_at, limits_of}
-use Rattle.world_core.specs.Tapes.{ComesTo, IsReadTape, IsRotated, LivesBy, RefusesAs, RefusesRotate, Rotation}
+use Rattle.sections.specs.Tapes.{TapePast, ledger_at, IsReadTape}
+use Rattle.world_core.specs.Past.{PeerPast, limits_of}
+use Rattle.world_core.specs.Tapes.{ComesTo, IsRotated, LivesBy, RefusesAs, RefusesRotate, Rotation}
 use Rattle.world_core.specs.Tapes.Rotation.{Is_broken, Is_last, Is_long, Fits}
 use Rattle.world_core.specs.Fault.{fault_of_station}
 use Rattle.world_core.specs.Stands.{PeerStands, ShedPeer, TapeStands}

@@ -8,12 +8,12 @@ use Rattle.std.specs.List.{AllByRecursion, slice_get}
 use Rattle.recovery.specs.Leaving.{EachLedger, pending_notes}
 use Rattle.recovery.specs.LeavingLaws.{EachLedger-weaker}
 use Rattle.recovery.specs.Notes.{History, recovered}
-use Rattle.world_core.specs.Past.{Past, PeerPast, TapePast, mark_at, with_peer}
-use Rattle.world_core.specs.Safe.{HasAcknowledged, IsAbove, IsSafe, KeepsLines, KeepsNotes}
+use Rattle.sections.specs.ListLaws.{all_at, all_set}
+use Rattle.sections.specs.Tapes.{TapePast, mark_at, IsAbove}
+use Rattle.world_core.specs.Past.{Past, PeerPast, with_peer}
+use Rattle.world_core.specs.Safe.{HasAcknowledged, IsSafe, KeepsLines, KeepsNotes}
 use Rattle.world_core.specs.Events.{Event, each_rank, opened_peer}
 use Rattle.world_core.specs.Sound.{HasParted, IsSound}
-use Rattle.world_core.proofs.AcknowledgedLines.{all_at}
-use Rattle.world_core.proofs.MarksAndNotes.{all_set}
 use Rattle.world_core.proofs.SoundOverEvents.{names_set}
 
 -- ---- lists

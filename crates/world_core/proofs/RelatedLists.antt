@@ -1,8 +1,8 @@
 -- Lists related element by element.
 use Rattle.std.proofs.Common.{◌≡◌, ℕ, zero, suc, Some, List, [], ◌∷◌, ◌++◌, length, map, refl, sym}
 use Rattle.std.proofs.Common.{◌∙◌, ap, subst}
-use Rattle.std.proofs.Math.ListN.{set}
-use Rattle.std.specs.List.{AllByRecursion, AllZip, slice_get}
+use Rattle.std.specs.List.{AllByRecursion, AllZip}
+use Rattle.sections.specs.ListLaws.{zip_then}
 
 module _ {A B : Type 0} (R : A → B → Type 0) where
   -- related lists, each appended to one of two related lists
@@ -49,26 +49,6 @@ module _ {A B : Type 0} (R : A → B → Type 0) where
   zip_both Q f g each (x ∷ xs) [] all = absurd all
   zip_both Q f g each (x ∷ xs) (y ∷ ys) all = (each x y all.0, zip_both Q f g each xs ys all.1)
 
-  -- a weaker relation
-  pub zip_weaker : (Q : A → B → Type 0) → ((x : A) (y : B) → R x y → Q x y)
-      → (xs : List A) (ys : List B) → AllZip R xs ys → AllZip Q xs ys
-  zip_weaker Q each [] [] all = tt
-  zip_weaker Q each [] (y ∷ ys) all = absurd all
-  zip_weaker Q each (x ∷ xs) [] all = absurd all
-  zip_weaker Q each (x ∷ xs) (y ∷ ys) all = (each x y all.0, zip_weaker Q each xs ys all.1)
-
--- the relation composed of two
-pub zip_then : {A B C : Type 0} (P : A → B → Type 0) (R : B → C → Type 0) (Q : A → C → Type 0)
-    → ((x : A) (y : B) (z : C) → P x y → R y z → Q x z)
-    → (xs : List A) (ys : List B) (zs : List C) → AllZip P xs ys → AllZip R ys zs → AllZip Q xs zs
-zip_then P R Q each [] [] [] all more = tt
-zip_then P R Q each [] [] (z ∷ zs) all more = more
-zip_then P R Q each [] (y ∷ ys) zs all more = absurd all
-zip_then P R Q each (x ∷ xs) [] zs all more = absurd all
-zip_then P R Q each (x ∷ xs) (y ∷ ys) [] all more = absurd more
-zip_then P R Q each (x ∷ xs) (y ∷ ys) (z ∷ zs) all more =
-    (each x y z all.0 more.0, zip_then P R Q each xs ys zs all.1 more.1)
-
 -- a relation of each image under f, from one of the element
 pub zip_map : {A B E : Type 0} (P : A → B → Type 0) (Q : E → B → Type 0) (f : A → E)
     → ((x : A) (y : B) → P x y → Q (f x) y)
@@ -91,17 +71,3 @@ pub zip_made : {A B : Type 0} (R : A → B → Type 0) (f : A → B) → ((x : A
     → AllZip R xs (map f xs)
 zip_made R f each [] = tt
 zip_made R f each (x ∷ xs) = (each x, zip_made R f each xs)
-
--- each element is related to itself, and one to another that is put in its place
-module _ {A : Type 0} (R : A → A → Type 0) (same : (x : A) → R x x) where
-  pub zip_same : (xs : List A) → AllZip R xs xs
-  zip_same [] = tt
-  zip_same (x ∷ xs) = (same x, zip_same xs)
-
-  pub zip_put : (xs : List A) (i : ℕ) (was now : A) → slice_get xs i ≡ Some was → R was now
-      → AllZip R xs (set xs i now)
-  zip_put [] i was now here one = tt
-  zip_put (x ∷ xs) zero was now here one =
-      let is : x ≡ was = cc in
-      (subst (λ (y : A). R y now) (sym is) one, zip_same xs)
-  zip_put (x ∷ xs) (suc i) was now here one = (same x, zip_put xs i was now here one)

@@ -13,7 +13,8 @@ use Rattle.recovery.specs.declared.fault.TapeFault.TheVariants.{Broken}
 use Rattle.recovery.specs.Notes.{begun as begun_history, flushed, most_pending, recovered}
 use Rattle.peer_queue.specs.DebtPlace.{Ready}
 use Rattle.peer_queue.specs.declared.limits.Owed.TheVariants.{Already, New}
-use Rattle.world_core.specs.Past.{Armed, Life, Past, PeerPast, TapePast, ledger_at, mark_at}
+use Rattle.sections.specs.Tapes.{TapePast, ledger_at, mark_at}
+use Rattle.world_core.specs.Past.{Armed, Life, Past, PeerPast}
 use Rattle.world_core.specs.Events.{Acknowledges, Closes, Imports, Opens, OpensIntake, Owes, Parts, Rotates, Sees}
 use Rattle.world_core.specs.Events.{Spills}
 use Rattle.world_core.specs.Events.AllDo.{Start}

@@ -9,17 +9,15 @@ use Rattle.disk_model.specs.declared.choice.Choice.{Choice}
 use Rattle.feed_conf.specs.declared.conf.PeerConf.{PeerConf}
 use Rattle.funnel.specs.Line.{HasFault}
 use Rattle.funnel.specs.declared.line.LineFault.TheVariants.{NoToken}
-use Rattle.ledger_core.specs.State.{State, start}
-use Rattle.ledger_core.specs.WrittenLaws.{whole-start}
-use Rattle.recovery.specs.Image.{IsTape}
-use Rattle.recovery.specs.Leaving.{EachLedger, HasLedger, IsPrefix}
 use Rattle.recovery.specs.Notes.{begun as begun_history}
 use Rattle.conn_core.specs.History.{Broke, Event as Happening, Sent, Tick, after, outside, story}
 use Rattle.conn_core.specs.Stands.{Arises}
 use Rattle.conn_core.specs.Stands.Arises.{Goes_on, Starts}
 use Rattle.conn_core.specs.declared.reason.Reason.TheVariants.{Broken}
 use Rattle.peer_queue.specs.DebtPlace.{IsHeldBy}
-use Rattle.world_core.specs.Past.{Armed, ConnPast, Life, Past, PeerPast, TapePast, options_of}
+use Rattle.sections.specs.TapeLaws.{no_notes, nothing_left}
+use Rattle.sections.specs.Tapes.{TapePast}
+use Rattle.world_core.specs.Past.{Armed, ConnPast, Life, Past, PeerPast, options_of}
 use Rattle.world_core.specs.Exchange.{broken_off, fresh_conn, followed_up, ticked}
 use Rattle.world_core.specs.Exchange.AllSettleAt.{None_settled}
 use Rattle.world_core.specs.Exchange.HandsOver.{None_there}
@@ -37,38 +35,6 @@ use Rattle.world_core.specs.declared.fault.Fault.TheVariants.{Running, Stopped a
 use Rattle.world_core.specs.declared.output.Handed.TheVariants.{Nothing}
 use Rattle.world_core.specs.declared.step.Step.TheVariants.{Begin, Break, Connect, Hand, Line, Restart, Stop}
 use Rattle.world_core.specs.declared.step.Step.TheVariants.{Tick as TickStep}
-
--- ---- two empty disks are an empty tape, and so is whatever a stop leaves of them
-
-nothing_lies : IsTape ([], []) start
-nothing_lies = record {
-  second = false;
-  lives = record {
-    one = 0;
-    other = 0;
-    first_has = inl (tt, refl);
-    second_has = inl (tt, refl);
-    greater = ((λ is. absurd cc), (λ less. absurd (omega (arith, less))));
-  };
-  generation = 0;
-  payloads = [];
-  reads = tt;
-  restores = inl (tt, refl, ([], tt, refl, tt, refl));
-}
-
-nothing_left : (P : State → Type 0) → P start → EachLedger P ([], [])
-nothing_left P holds one other is is' =
-    subst (λ (octets : List ℕ). HasLedger P (octets, other)) (sym is)
-    (subst (λ (octets : List ℕ). HasLedger P ([], octets)) (sym is') (start, nothing_lies, holds))
-
-no_notes : IsPrefix begun_history start
-no_notes = record {
-  count = 0;
-  enough = omega arith;
-  within = omega arith;
-  legal = record { whole = whole-start; notes_are = tt; legal = tt };
-  is = refl;
-}
 
 distinct_nil : IsDistinct {K = ℕ} (λ (one other : ℕ). one == other) []
 unfolding IsDistinct

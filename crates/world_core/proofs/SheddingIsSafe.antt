@@ -5,14 +5,15 @@ use Rattle.std.proofs.lemmas.List.{drop-append-le}
 use Rattle.ledger_core.specs.State.{State}
 use Rattle.peer_queue.specs.Shed.{dropped}
 use Rattle.recovery.specs.Leaving.{pending_notes}
-use Rattle.world_core.specs.Past.{Past, PeerPast, TapePast, with_peer}
-use Rattle.world_core.specs.Safe.{HasAcknowledged, IsAbove}
+use Rattle.sections.specs.ListLaws.{both_all}
+use Rattle.sections.specs.Tapes.{TapePast, IsAbove}
+use Rattle.world_core.specs.Past.{Past, PeerPast, with_peer}
+use Rattle.world_core.specs.Safe.{HasAcknowledged}
 use Rattle.world_core.specs.Tapes.{RefusesRotate}
 use Rattle.world_core.specs.Tapes.Rotation.{Is_broken, Is_last, Is_long, Fits}
 use Rattle.world_core.specs.Events.{shed_peer}
 use Rattle.world_core.specs.Sound.{IsSound}
 use Rattle.world_core.specs.declared.fault.Fault.{Fault}
-use Rattle.world_core.proofs.MarksAndNotes.{both_all}
 use Rattle.world_core.proofs.SoundOverEvents.{sound_kept}
 
 drops_above : (mark : ℕ) (numbers : List ℕ) → AllByRecursion (IsAbove mark) (dropped numbers)

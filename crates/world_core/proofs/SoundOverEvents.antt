@@ -13,16 +13,17 @@ use Rattle.recovery.specs.Leaving.{EachLedger, pending_notes}
 use Rattle.recovery.specs.LeavingLaws.{prefix_of_survives}
 use Rattle.recovery.specs.Notes.{History, flushed}
 use Rattle.recovery.specs.declared.tape.Tape.{Tape}
-use Rattle.world_core.specs.Past.{Past, PeerPast, TapePast, mark_at, with_intake, with_last, with_peer, with_tape}
-use Rattle.world_core.specs.Safe.{HasAcknowledged, IsAbove, IsSafe, KeepsNotes}
+use Rattle.sections.specs.ListLaws.{all_at, all_set}
+use Rattle.sections.specs.Tapes.{TapePast, mark_at, IsAbove}
+use Rattle.world_core.specs.Past.{Past, PeerPast, with_intake, with_last, with_peer, with_tape}
+use Rattle.world_core.specs.Safe.{HasAcknowledged, IsSafe, KeepsNotes}
 use Rattle.world_core.specs.Events.{closing, owing_as, parted}
 use Rattle.world_core.specs.Tapes.{noted_at}
 use Rattle.world_core.specs.Steps.{IsSealable, begun_at}
 use Rattle.world_core.specs.Sound.{HasParted, IsSound, NamesRise, names_of}
 use Rattle.world_core.specs.Stands.{PeerStands, Stands, TapeStands}
 use Rattle.world_core.specs.declared.stations.Stations.{Stations}
-use Rattle.world_core.proofs.AcknowledgedLines.{all_at}
-use Rattle.world_core.proofs.MarksAndNotes.{above_flushed, above_noted, all_set, keeps_lines, map_set}
+use Rattle.world_core.proofs.MarksAndNotes.{above_flushed, above_noted, keeps_lines, map_set}
 use Rattle.peer_queue.specs.Words.{tape_of}
 use Rattle.world_core.proofs.RelatedLists.{zip_first}
 

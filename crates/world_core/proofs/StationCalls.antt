@@ -8,7 +8,8 @@ use Rattle.std.specs.List.{AllZip, slice_get}
 use Rattle.disk_model.specs.declared.Disk.{Ghosts}
 use Rattle.ledger_core.specs.State.{State}
 use Rattle.peer_queue.specs.declared.limits.Owed.{Owed}
-use Rattle.world_core.specs.Past.{Past, PeerPast, TapePast, with_peer, with_tape}
+use Rattle.sections.specs.Tapes.{TapePast}
+use Rattle.world_core.specs.Past.{Past, PeerPast, with_peer, with_tape}
 use Rattle.world_core.specs.Safe.{KeepsNotes}
 use Rattle.world_core.specs.Tapes.{RefusesFlush, noted_at}
 use Rattle.world_core.specs.Events.{Closes, Does, Event, Imports, Owes, OwesAs, Parts, Refuses, RefusesAt, Rotates}

@@ -5,7 +5,9 @@ use Rattle.std.specs.Prelude.{Bool, Contains, IfErr, OnOk, Result, option_map}
 use Rattle.disk_model.specs.declared.Disk.{Ghosts}
 use Rattle.std.specs.List.{AllByRecursion, AllZip, slice_get}
 use Rattle.recovery.specs.declared.fault.TapeFault.TheVariants.{Disk}
-use Rattle.world_core.specs.Past.{Armed, ConnPast, Life, Past, PeerPast, TapePast, options_of, rank_of, with_past}
+use Rattle.sections.specs.ListLaws.{zip_weaker}
+use Rattle.sections.specs.Tapes.{TapePast}
+use Rattle.world_core.specs.Past.{Armed, ConnPast, Life, Past, PeerPast, options_of, rank_of, with_past}
 use Rattle.ledger_core.specs.declared.note.Note.{Note}
 use Rattle.ledger_core.specs.declared.note.Note.TheVariants.{Owe}
 use Rattle.world_core.specs.Tapes.{RefusesClose, RefusesOwe}
@@ -38,7 +40,6 @@ use Rattle.world_core.proofs.HeldOverEvents.{AllHold, HoldsSame, steady}
 use Rattle.world_core.proofs.ImportEvents.{all_import}
 use Rattle.world_core.proofs.TapeSteps.{FailsOnlyAt, fails_there, note_not, seal_only, took_by}
 use Rattle.world_core.proofs.WalkOverTapes.{OnStep, OnTape, refuses_keep, takes_keep}
-use Rattle.world_core.proofs.RelatedLists.{zip_weaker}
 
 -- ---- what connections hold stays
 

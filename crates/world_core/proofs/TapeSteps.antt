@@ -10,7 +10,9 @@ use Rattle.std.proofs.Math.ListN.{set}
 use Rattle.std.proofs.lemmas.List.{length-map, length-set, take_all}
 use Rattle.disk_model.specs.declared.Disk.{Ghosts}
 use Rattle.recovery.specs.Words.{ledger_of}
-use Rattle.world_core.specs.Past.{Past, PeerPast, TapePast, rank_of}
+use Rattle.sections.specs.ListLaws.{all_at}
+use Rattle.sections.specs.Tapes.{TapePast}
+use Rattle.world_core.specs.Past.{Past, PeerPast, rank_of}
 use Rattle.world_core.specs.Output.{Rotated as SaidRotated, View, Shed as SaidShed, Taken as SaidTaken, view_of}
 use Rattle.recovery.specs.declared.fault.TapeFault.TheVariants.{Disk}
 use Rattle.world_core.specs.Tapes.{RefusesNote}
@@ -29,7 +31,6 @@ use Rattle.world_core.specs.declared.step.Step.TheVariants.{Flush}
 use Rattle.world_core.specs.declared.output.Output.{Output}
 use Rattle.world_core.specs.declared.output.Output.TheVariants.{Rotated as OutputRotated, Shed as OutputShed}
 use Rattle.world_core.specs.declared.output.Output.TheVariants.{Taken as OutputTaken}
-use Rattle.world_core.proofs.AcknowledgedLines.{all_at}
 use Rattle.world_core.proofs.EventLists.{did_more, did_none, did_one, did_then, each_more, each_split, failed_before}
 use Rattle.world_core.proofs.EventLists.{failed_next, failed_one, failed_then}
 use Rattle.world_core.proofs.IntakeSees.{mark_is}

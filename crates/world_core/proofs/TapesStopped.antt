@@ -10,7 +10,8 @@ use Rattle.recovery.specs.Leaving.{EachLedger, HasLedger, left_by}
 use Rattle.recovery.specs.LeavingLaws.{EachLedger-weaker, left_leaves}
 use Rattle.recovery.specs.Notes.{History}
 use Rattle.recovery.specs.Words.{log_of, faults_of}
-use Rattle.world_core.specs.Past.{Past, PeerPast, TapePast, mark_at}
+use Rattle.sections.specs.Tapes.{TapePast, mark_at}
+use Rattle.world_core.specs.Past.{Past, PeerPast}
 use Rattle.world_core.specs.Safe.{HasAcknowledged, IsSafe, KeepsLines, KeepsNotes}
 use Rattle.world_core.specs.Halts.{AtRest, ByChoice, Manner, left, left_peer, left_tape}
 use Rattle.world_core.specs.Halting.{AreLeftBy, HaltsAs, IsLeftOf, TapesStop, with_disks}

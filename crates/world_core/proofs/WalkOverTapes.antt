@@ -5,7 +5,9 @@ use Rattle.std.proofs.Common.{◌∷◌, length, refl, sym, ap, ◌∙◌, subst
 use Rattle.std.specs.Prelude.{if◌then◌else◌}
 use Rattle.std.specs.Global.{Vec}
 use Rattle.std.specs.List.{AllByRecursion, slice_get}
-use Rattle.world_core.specs.Past.{Armed, Life, Past, PeerPast, TapePast, with_intake, with_peer, with_tape}
+use Rattle.sections.specs.ListLaws.{all_weaker, both_all}
+use Rattle.sections.specs.Tapes.{TapePast}
+use Rattle.world_core.specs.Past.{Armed, Life, Past, PeerPast, with_intake, with_peer, with_tape}
 use Rattle.world_core.specs.Safe.{KeepsNotes}
 use Rattle.world_core.specs.Events.{Acknowledges, AllDo, Claims, Closes, Does, Event, Fails, Imports, Opens}
 use Rattle.world_core.specs.Events.{OpensIntake, Owes, Parts, Refuses, Returns, Rotates, Sees, Settles, Sheds, Spills}
@@ -24,7 +26,7 @@ use Rattle.world_core.specs.declared.step.Step.{Step}
 use Rattle.world_core.specs.declared.step.Step.TheVariants.{Begin, Flush, Import, Line, Part, Restart, Rotate, Seal}
 use Rattle.world_core.specs.declared.step.Step.TheVariants.{Shed}
 use Rattle.world_core.proofs.ImportEvents.{all_import}
-use Rattle.world_core.proofs.MarksAndNotes.{all_weaker, both_all, first_all, prefix_all, last_all}
+use Rattle.world_core.proofs.MarksAndNotes.{first_all, prefix_all, last_all}
 use Rattle.world_core.proofs.SheddingIsSafe.{same_rotated}
 use Rattle.world_core.proofs.StationCalls.{same_history}
 

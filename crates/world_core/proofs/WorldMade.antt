@@ -33,6 +33,8 @@ use Rattle.recovery.specs.declared.fault.TapeFault.{TapeFault}
 use Rattle.recovery.specs.declared.fault.TapeFault.TheVariants.{Damaged, Disk, Broken, TapeFull, GenerationFull}
 use Rattle.recovery.specs.declared.fault.TapeFault.TheVariants.{PendingFull, NoMemory as NoTapeMemory, Note}
 use Rattle.recovery.specs.declared.tape.Tape.{Tape as OpenTape}
+use Rattle.sections.specs.ListLaws.{all_at}
+use Rattle.sections.specs.TapeLaws.{nothing_lies}
 use Rattle.world_core.specs.Past.{Life, Past, PeerPast, limits_of}
 use Rattle.world_core.specs.Safe.{HasAcknowledged}
 use Rattle.world_core.specs.Given.{BeginsFrom, GivenPeer, IsFound, IsGivenPeer, OpensGiven, RefusesFirst, RefusesTape}
@@ -49,7 +51,6 @@ use Rattle.world_core.specs.declared.peer.Peer.{Peer}
 use Rattle.world_core.specs.declared.stop.StopDisk.{StopDisk}
 use Rattle.world_core.specs.declared.world.Stage.TheVariants.{Running}
 use Rattle.world_core.specs.declared.world.World.{World}
-use Rattle.world_core.proofs.AcknowledgedLines.{all_at}
 use Rattle.world_core.proofs.PeerCalls.{not_true}
 use Rattle.world_core.proofs.SoundOverEvents.{each_prefix, safe_of}
 use Rattle.world_core.proofs.WorldStopped.{tied_none}
@@ -117,22 +118,6 @@ sorted_rise given ordered permuted up apart =
     (IsPermutation-map (λ (x : GivenPeer). x.0.name) given ordered permuted) apart)
 
 -- ---- a tape is opened
-
-nothing_lies : IsTape ([], []) start
-nothing_lies = record {
-  second = false;
-  lives = record {
-    one = 0;
-    other = 0;
-    first_has = inl (tt, refl);
-    second_has = inl (tt, refl);
-    greater = ((λ is. absurd cc), (λ less. absurd (omega (arith, less))));
-  };
-  generation = 0;
-  payloads = [];
-  reads = tt;
-  restores = inl (tt, refl, ([], tt, refl, tt, refl));
-}
 
 module _ {D : Type 0} {g : Ghosts D} where
   is_found : (state : State) (tape : OpenTape D g) → StandsFor tape (found state) → faults_of tape ≡ (0, 0)

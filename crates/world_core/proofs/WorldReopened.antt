@@ -7,6 +7,7 @@ use Rattle.std.proofs.Math.Seq.{take-length}
 use Rattle.disk_model.specs.declared.Disk.{Ghosts}
 use Rattle.ledger_core.specs.State.{State, keys}
 use Rattle.recovery.specs.LeavingLaws.{EachLedger-weaker}
+use Rattle.sections.specs.ListLaws.{all_at}
 use Rattle.world_core.specs.Past.{Life, Past, PeerPast, with_past}
 use Rattle.world_core.specs.Events.{AllDo, Event}
 use Rattle.world_core.specs.Events.AllDo.{Start}
@@ -30,7 +31,6 @@ use Rattle.world_core.specs.declared.output.Output.{Output}
 use Rattle.world_core.specs.declared.world.Stage.{Stage}
 use Rattle.world_core.specs.declared.world.Stage.TheVariants.{Running, Stopped}
 use Rattle.world_core.specs.declared.world.World.{World}
-use Rattle.world_core.proofs.AcknowledgedLines.{all_at}
 use Rattle.world_core.proofs.TapesStopped.{left_sound, lines_left}
 use Rattle.world_core.proofs.WorldStopped.{left_free, tied_none}
 use Rattle.world_core.proofs.RelatedLists.{zip_equal, zip_map}

@@ -18,10 +18,11 @@ use Rattle.peer_queue.specs.declared.limits.Owed.{Owed}
 use Rattle.peer_queue.specs.declared.limits.Owed.TheVariants.{Already, New}
 use Rattle.peer_queue.specs.declared.settled.Settled.{Settled}
 use Rattle.peer_queue.specs.declared.settled.Settled.TheVariants.{Answered, Dropped, Later, Ready as Back}
-use Rattle.world_core.specs.Past.{Past, PeerPast, TapePast, ledger_at, limits_of, mark_at, with_intake, with_peer}
+use Rattle.sections.specs.Tapes.{TapePast, ledger_at, mark_at, IsReadTape}
+use Rattle.world_core.specs.Past.{Past, PeerPast, limits_of, with_intake, with_peer}
 use Rattle.world_core.specs.Past.{with_places, with_tape}
 use Rattle.world_core.specs.Safe.{IsSafe, KeepsLines, KeepsNotes}
-use Rattle.world_core.specs.Tapes.{IsFlushed, HasRoom, IsReadTape, IsReopened, RefusesClose, RefusesFlush, RefusesNote}
+use Rattle.world_core.specs.Tapes.{IsFlushed, HasRoom, IsReopened, RefusesClose, RefusesFlush, RefusesNote}
 use Rattle.world_core.specs.Tapes.{RefusesOpen, RefusesOwe, RefusesRotate, IsRotated, noted_at}
 use Rattle.world_core.specs.declared.fault.Fault.{Fault}
 use Rattle.world_core.specs.declared.fault.Fault.TheVariants.{NoMemory, Tape}

@@ -17,10 +17,11 @@ use Rattle.conn_core.specs.declared.ready.Ready.TheVariants.{Busy as NoRoom, Shu
 use Rattle.peer_queue.specs.DebtPlace.{IsHeldBy, Ready, least_candidate, moved}
 use Rattle.peer_queue.specs.Settled.{IsEnded, key_in, settled_by}
 use Rattle.peer_queue.specs.declared.limits.Limits.{Limits}
-use Rattle.world_core.specs.Past.{ConnPast, Life, PeerPast, TapePast, conn_at, limits_of, options_of, rank_of}
+use Rattle.sections.specs.Tapes.{TapePast, IsReadTape}
+use Rattle.world_core.specs.Past.{ConnPast, Life, PeerPast, conn_at, limits_of, options_of, rank_of}
 use Rattle.world_core.specs.Past.{with_conn, with_past, with_peer, with_places, with_tape}
 use Rattle.world_core.specs.Events.{IsCandidate, RefusesClaim, RefusesEnd, claimed_peer, settled, settling}
-use Rattle.world_core.specs.Tapes.{HasRoom, IsReadTape}
+use Rattle.world_core.specs.Tapes.{HasRoom}
 use Rattle.world_core.specs.Output.{Connected, Handed, SentLine, View, Settled, closed_view, lines_in, need_view}
 use Rattle.world_core.specs.declared.fault.Fault.{Fault}
 use Rattle.world_core.specs.declared.fault.Fault.TheVariants.{CountFull, NoConnection, NoMemory, NoPeer, NotNeeded}

@@ -2,9 +2,9 @@
 use Rattle.std.specs.Prelude.{◌≡◌, ◌⊎◌, ℕ, Some, List, [], ◌∷◌, map, slice_get}
 use Rattle.conn_core.specs.History.{Event as Happening}
 use Rattle.conn_core.specs.declared.outcome.Outcome.{Outcome}
-use Rattle.world_core.specs.Past.{ConnPast, Life, Past, PeerPast, TapePast, with_peer, with_tape}
+use Rattle.sections.specs.Tapes.{TapePast, IsReadTape}
+use Rattle.world_core.specs.Past.{ConnPast, Life, Past, PeerPast, with_peer, with_tape}
 use Rattle.world_core.specs.Safe.{IsSafe}
-use Rattle.world_core.specs.Tapes.{IsReadTape}
 use Rattle.world_core.specs.Events.{AllDo, Claims, Event, Fails, Refuses, RefusesEnd, Returns, Settles, settling}
 use Rattle.world_core.specs.Exchange.{AllSettleAt, FailsToOffer, HandsOver, IsConn, with_pair}
 use Rattle.world_core.specs.Sound.{AreTied}

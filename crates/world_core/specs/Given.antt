@@ -14,7 +14,8 @@ use Rattle.recovery.specs.declared.fault.TapeFault.{TapeFault}
 use Rattle.recovery.specs.declared.fault.TapeFault.TheVariants.{Damaged, Disk, Broken, TapeFull, GenerationFull}
 use Rattle.recovery.specs.declared.fault.TapeFault.TheVariants.{PendingFull, NoMemory as NoTapeMemory, Note}
 use Rattle.recovery.specs.declared.tape.Tape.{Tape as OpenTape}
-use Rattle.world_core.specs.Past.{Life, PeerPast, TapePast}
+use Rattle.sections.specs.Tapes.{TapePast}
+use Rattle.world_core.specs.Past.{Life, PeerPast}
 use Rattle.world_core.specs.Sound.{NamesRise}
 use Rattle.world_core.specs.Stands.{IsFreshOf, IsFreshPeer, PeerStands, TapeStands, WorldStands}
 use Rattle.world_core.specs.declared.fault.TapesFault.{TapesFault}

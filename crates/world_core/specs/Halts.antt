@@ -2,7 +2,8 @@
 use Rattle.std.specs.Prelude.{◌≡◌, ◌⊎◌, ℕ, zero, suc, true, false, Option, None, Some, List, [], ◌∷◌, ◌++◌, length, map}
 use Rattle.disk_model.specs.declared.choice.Choice.{Choice}
 use Rattle.recovery.specs.Leaving.{left_by}
-use Rattle.world_core.specs.Past.{Armed, Life, Past, PeerPast, TapePast, rank_of, with_past}
+use Rattle.sections.specs.Tapes.{TapePast}
+use Rattle.world_core.specs.Past.{Armed, Life, Past, PeerPast, rank_of, with_past}
 use Rattle.world_core.specs.Events.{Event, Opens, OpensIntake, each_rank}
 use Rattle.world_core.specs.Output.{View, Stopped}
 use Rattle.world_core.specs.declared.fault.Fault.{Fault}

@@ -1,7 +1,7 @@
 -- What events keep of every peer.
 use Rattle.std.specs.Prelude.{◌≡◌}
 use Rattle.std.specs.List.{AllZip}
-use Rattle.world_core.specs.Laws.{StaysAcknowledged}
+use Rattle.sections.specs.Tapes.{StaysAcknowledged}
 use Rattle.world_core.specs.Past.{Past, PeerPast}
 
 -- a peer has the same settings, and its acknowledged notes are still acknowledged

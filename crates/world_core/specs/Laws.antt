@@ -11,8 +11,9 @@ use Rattle.conn_core.specs.Stands.{Arises}
 use Rattle.conn_core.specs.declared.outcome.Outcome.TheVariants.{Final as FinalOutcome}
 use Rattle.conn_core.specs.declared.verdict.Verdict.{Verdict}
 use Rattle.conn_laws.specs.Laws.{IsRightAt}
-use Rattle.peer_queue.specs.Words.{IsEnd}
-use Rattle.world_core.specs.Past.{ConnPast, Life, Past, PeerPast, TapePast, conn_at, options_of}
+use Rattle.sections.specs.Tapes.{IsAcknowledgedBy, IsRecovered as IsRecoveredTape, StaysAcknowledged}
+use Rattle.sections.specs.Tapes.{StillOwes as OwesStill}
+use Rattle.world_core.specs.Past.{ConnPast, Life, Past, PeerPast, conn_at, options_of}
 use Rattle.world_core.specs.Events.{IsCandidate}
 use Rattle.world_core.specs.Exchange.{IsConn}
 use Rattle.world_core.specs.Runs.{RefusesStep, Takes}
@@ -43,12 +44,6 @@ OverRuns R = (begun later : Life) (steps : List Step) (lines : List (List View))
     → R begun later
 
 -- ---- what was acknowledged stays acknowledged
-
--- the notes that were acknowledged are a prefix of those that are now
-pub record StaysAcknowledged (was now : TapePast) : Type 0 where
-  pub base : now.history.base ≡ was.history.base
-  pub more : List Note
-  pub prefix : take now.history.kept now.history.notes ≡ take was.history.kept was.history.notes ++ more
 
 pub record AllStayAcknowledged (begun later : Life) : Type 0 where
   pub peers : AllZip (λ (was now : PeerPast). (now.conf ≡ was.conf) × StaysAcknowledged was.tape now.tape)
@@ -138,36 +133,23 @@ AllFinalsAreRight = (begun later : Life) (steps : List Step) (lines : List (List
 
 -- ---- the headline
 
--- the peer's notes have a final answer to the debt, or a drop of it
-abbrev pub HasEnded : PeerPast → ℕ → Type 0
-HasEnded peer number = (note : Note) × Contains peer.tape.history.notes note × IsEnd note number
-
--- A debt that was acknowledged, or that the history began from, is owed after any prefix of the notes that has every
--- acknowledged one in it, unless the peer's notes have a final answer to it or a drop of it.
-pub record StillOwes (was now : PeerPast) : Type 0 where
-  pub owed : (index number : ℕ) (token id : List ℕ)
-      → slice_get was.tape.history.notes index ≡ Some (Owe number token id)
-      → index < was.tape.history.kept → (state : State) → IsPrefix now.tape.history state
-      → Contains state.debts (number, (token, id)) ⊎ HasEnded now number
-  pub given : (number : ℕ) (token id : List ℕ) → Contains was.tape.history.base.debts (number, (token, id))
-      → (state : State) → IsPrefix now.tape.history state
-      → Contains state.debts (number, (token, id)) ⊎ HasEnded now number
+-- Each debt of the peer that was acknowledged, or that its history began from, is owed after any prefix of its notes
+-- that has every acknowledged one in it, unless its notes have a final answer to it or a drop of it.
+abbrev pub StillOwes : PeerPast → PeerPast → Type 0
+StillOwes was now = OwesStill was.tape.history now.tape.history
 
 -- Whatever a stop may leave of the peer's tape is the tape of a prefix of its notes, with every acknowledged one in it;
 -- and each debt that was acknowledged is still owed there, or has ended.
-pub record IsRecovered (was now : PeerPast) : Type 0 where
-  pub prefix : EachLedger (IsPrefix now.tape.history) now.tape.log
-  pub owes : StillOwes was now
+abbrev pub IsRecovered : PeerPast → PeerPast → Type 0
+IsRecovered was now = IsRecoveredTape was.tape now.tape
 
 abbrev pub AllAreRecovered : Life → Life → Type 0
 AllAreRecovered begun later = AllZip IsRecovered begun.past.peers later.past.peers
 
 -- A line is acknowledged as soon as a stop may leave the intake's tape with a mark at or above its number. Then the
 -- note that it made at a peer is acknowledged there.
-pub record IsAcknowledgedLine (past : Past) (number : ℕ) : Type 0 where
-  pub seen : State
-  pub may : MayLeave past.intake.log seen
-  pub below : number ≤ seen.mark
+abbrev pub IsAcknowledgedLine : Past → ℕ → Type 0
+IsAcknowledgedLine past number = IsAcknowledgedBy past.intake number
 
 abbrev pub LinesAreAcknowledged : Past → Type 0
 LinesAreAcknowledged past = (rank index number : ℕ) (peer : PeerPast) (token id : List ℕ)

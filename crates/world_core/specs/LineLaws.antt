@@ -10,9 +10,10 @@ use Rattle.ledger_core.specs.State.{State}
 use Rattle.recovery.specs.Leaving.{EachLedger, LedgersLeave}
 use Rattle.peer_queue.specs.declared.limits.Owed.{Owed as Answer}
 use Rattle.peer_queue.specs.declared.limits.Owed.TheVariants.{New, Already}
-use Rattle.world_core.specs.Past.{Life, Past, PeerPast, mark_at, with_last, with_past}
+use Rattle.sections.specs.Tapes.{OwesOrEnded as OwesOrHasEnd, mark_at}
+use Rattle.world_core.specs.Past.{Life, Past, PeerPast, with_last, with_past}
 use Rattle.world_core.specs.Events.{owing_as}
-use Rattle.world_core.specs.Laws.{Comes, HasEnded, IsAcknowledgedLine}
+use Rattle.world_core.specs.Laws.{Comes, IsAcknowledgedLine}
 use Rattle.world_core.specs.Moments.{IsUnderWay}
 use Rattle.world_core.specs.Runs.{Takes}
 use Rattle.world_core.specs.Steps.{IsReading, NotGood, is_named}
@@ -31,7 +32,7 @@ pub record MadeDebt (past : Past) (rank number : ℕ) (token id : List ℕ) : Ty
 
 -- the debt is owed in this ledger, or the peer's notes have a final answer to it or a drop of it
 abbrev pub OwesOrEnded : PeerPast → ℕ → List ℕ → List ℕ → State → Type 0
-OwesOrEnded peer number token id state = Contains state.debts (number, (token, id)) ⊎ HasEnded peer number
+OwesOrEnded peer number token id state = OwesOrHasEnd peer.tape.history.notes number token id state
 
 -- the same holds in the ledger of whatever a stop may leave of that peer's tape
 abbrev pub LinesAreKept : Life → Life → Type 0

@@ -7,7 +7,8 @@ use Rattle.ledger_core.specs.State.{keys}
 use Rattle.conn_core.specs.declared.reason.Reason.{Reason}
 use Rattle.peer_queue.specs.declared.limits.Owed.{Owed as Answer}
 use Rattle.peer_queue.specs.declared.settled.Settled.{Settled as Settling}
-use Rattle.world_core.specs.Past.{PeerPast, ledger_at, mark_at}
+use Rattle.sections.specs.Tapes.{ledger_at, mark_at}
+use Rattle.world_core.specs.Past.{PeerPast}
 use Rattle.world_core.specs.declared.output.Handed.{Handed as Handing}
 use Rattle.world_core.specs.declared.output.OwedAt.{OwedAt}
 use Rattle.world_core.specs.declared.output.Output.{Output}

@@ -4,22 +4,11 @@ use Rattle.std.specs.Map.{lookup}
 use Rattle.std.specs.Str.{bytes_eq}
 use Rattle.disk_model.specs.declared.choice.Choice.{Choice}
 use Rattle.feed_conf.specs.declared.conf.PeerConf.{PeerConf}
-use Rattle.ledger_core.specs.State.{State}
-use Rattle.recovery.specs.Image.{Log}
-use Rattle.recovery.specs.Leaving.{mark_of}
-use Rattle.recovery.specs.Notes.{History, ledger_after}
 use Rattle.conn_core.specs.History.{Event as Happening}
 use Rattle.conn_core.specs.declared.options.Options.{Options}
 use Rattle.peer_queue.specs.DebtPlace.{Places}
 use Rattle.peer_queue.specs.declared.limits.Limits.{Limits}
-
--- A tape: its notes and how many are acknowledged, what has happened to its two disks, how many faults each reported,
--- and whether a flush or a rotation broke it.
-pub record TapePast : Type 0 where
-  pub history : History
-  pub log : Log
-  pub faults : ℕ × ℕ
-  pub broken : Bool
+use Rattle.sections.specs.Tapes.{TapePast}
 
 -- A peer: its settings, its tape, the place of each number that it is owed, and whether it was flushed since a number
 -- was kept.
@@ -62,14 +51,6 @@ pub record Life : Type 0 where
   pub running : Bool
 
 -- ---- what is looked up in it
-
--- the ledger that a tape's notes make
-abbrev pub ledger_at : TapePast → State
-ledger_at tape = ledger_after tape.history
-
--- the greatest number that a tape has noted
-abbrev pub mark_at : TapePast → ℕ
-mark_at tape = mark_of tape.history
 
 -- the rank of the first peer of this name
 abbrev pub rank_of : Past → List ℕ → Option ℕ

@@ -12,7 +12,8 @@ use Rattle.conn_core.specs.Stands.{Arises}
 use Rattle.conn_core.specs.declared.options.Options.{Options}
 use Rattle.peer_queue.specs.DebtPlace.{IsHeldBy}
 use Rattle.peer_queue.specs.Settled.{key_in}
-use Rattle.world_core.specs.Past.{ConnPast, Life, Past, PeerPast, conn_at, mark_at, options_of}
+use Rattle.sections.specs.Tapes.{mark_at}
+use Rattle.world_core.specs.Past.{ConnPast, Life, Past, PeerPast, conn_at, options_of}
 use Rattle.world_core.specs.Safe.{HasAcknowledged}
 use Rattle.world_core.specs.Exchange.{unsettled}
 

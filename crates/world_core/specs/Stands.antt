@@ -21,7 +21,8 @@ use Rattle.peer_queue.specs.DebtPlace.{all_ready, place_at}
 use Rattle.peer_queue.specs.Words.{limits_of as station_limits, places_of, tape_of}
 use Rattle.peer_queue.specs.declared.limits.Owed.{Owed}
 use Rattle.peer_queue.specs.declared.limits.Owed.TheVariants.{New}
-use Rattle.world_core.specs.Past.{Armed, ConnPast, Life, Past, PeerPast, TapePast, ledger_at, limits_of, options_of}
+use Rattle.sections.specs.Tapes.{TapePast, ledger_at}
+use Rattle.world_core.specs.Past.{Armed, ConnPast, Life, Past, PeerPast, limits_of, options_of}
 use Rattle.world_core.specs.Past.{with_tape}
 use Rattle.world_core.specs.Safe.{IsSafe, KeepsLines, KeepsNotes}
 use Rattle.world_core.specs.Tapes.{HasRoom, IsFlushed, IsReopened, IsRotated, RefusesClose, RefusesFlush, RefusesOpen}

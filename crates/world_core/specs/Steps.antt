@@ -9,7 +9,8 @@ use Rattle.funnel.specs.Line.{IsFunnelLine, HasFault}
 use Rattle.funnel.specs.declared.line.LineFault.{LineFault}
 use Rattle.funnel.specs.declared.line.LineFault.TheVariants.{NoMemory as NoLineMemory}
 use Rattle.peer_queue.specs.declared.limits.Owed.{Owed as Answer}
-use Rattle.world_core.specs.Past.{Past, PeerPast, mark_at, rank_of, with_last}
+use Rattle.sections.specs.Tapes.{mark_at}
+use Rattle.world_core.specs.Past.{Past, PeerPast, rank_of, with_last}
 use Rattle.world_core.specs.Events.{Acknowledges, AllDo, Event, Fails, Owes, Parts, Rotates, Sees, Sheds, each_rank}
 use Rattle.world_core.specs.Events.{import_mark_at, open_source, owed_as}
 use Rattle.world_core.specs.Halts.{restart_events}

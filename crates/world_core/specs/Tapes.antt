@@ -10,7 +10,7 @@ use Rattle.recovery.specs.Notes.{flushed, most_pending, noted, recovered}
 use Rattle.recovery.specs.Words.{OneHasRisen}
 use Rattle.recovery.specs.declared.fault.TapeFault.TheVariants.{Broken, Disk, GenerationFull, PendingFull, TapeFull}
 use Rattle.recovery.specs.declared.fault.TapeFault.TheVariants.{Note as RefusedNote}
-use Rattle.world_core.specs.Past.{TapePast, ledger_at}
+use Rattle.sections.specs.Tapes.{Breaks, IsReadTape, TapePast, ledger_at}
 use Rattle.world_core.specs.declared.fault.Fault.{Fault}
 use Rattle.world_core.specs.declared.fault.Fault.TheVariants.{NoMemory, Tape}
 
@@ -45,14 +45,6 @@ RefusesClose tape note fault =
     ((fault ≡ Tape (RefusedNote CountFull)) × (tape.broken ≡ false) × Overflows (ledger_at tape) note)
     ⊎ ((tape.broken ≡ false → Overflows (ledger_at tape) note → ⊥) × RefusesNote tape fault)
 
--- ---- a reading
-
--- it was read: a disk may have reported a fault, and nothing else has happened
-pub record IsReadTape (old new : TapePast) : Type 0 where
-  pub first : old.faults.0 ≤ new.faults.0
-  pub second : old.faults.1 ≤ new.faults.1
-  pub all : new ≡ record old { faults = new.faults }
-
 -- ---- a flush
 
 -- it answered Ok: all notes are acknowledged, and if none pended its disks were not called
@@ -62,13 +54,6 @@ pub record IsFlushed (P : State → Type 0) (old new : TapePast) : Type 0 where
   pub idle : pending_notes old.history ≡ [] → new.log ≡ old.log
   pub moments : LedgersLeave P old.log new.log
   pub all : new ≡ record { history = flushed old.history; log = new.log; faults = old.faults; broken = false }
-
--- a disk failed, and the tape is broken from now on
-pub record Breaks (P : State → Type 0) (old new : TapePast) : Type 0 where
-  pub worked : old.broken ≡ false
-  pub cause : OneHasRisen old.faults new.faults
-  pub moments : LedgersLeave P old.log new.log
-  pub all : new ≡ record { history = old.history; log = new.log; faults = new.faults; broken = true }
 
 -- some notes pend, and there is room for them in the segment
 abbrev pub MayFlush : TapePast → Type 0
