@@ -1,0 +1,3 @@
+pub mod Digits
+mod Rows
+pub mod Texts

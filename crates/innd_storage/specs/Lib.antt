@@ -1,0 +1,9 @@
+pub mod ArticleHeads
+pub mod BufferNames
+pub mod Cycbuffs
+pub mod CycbuffLines
+pub mod MapLines
+pub mod Numbers
+pub mod Paths
+pub mod Places
+pub mod Tokens
