@@ -194,7 +194,7 @@ begin() {
   esac
 }
 # complaints: what take-from-innd and innfeed have told besides how far they are.
-complaints() { { grep -v '^taken ' feed/told; cat feed/take.said; } 2>/dev/null | head -n 5 | sed 's/^/  told: /' || true; }
+complaints() { { grep -Ev '^(taken|innfeed .* (starts|ends as asked):) ' feed/told; cat feed/take.said; } 2>/dev/null | head -n 5 | sed 's/^/  told: /' || true; }
 # arrive SECONDS COUNT NAME ..: waits until these have COUNT articles, at most SECONDS seconds after the last.
 arrive() {
   local name before=-1 now still=0

@@ -8,6 +8,7 @@
 #![tactic(auto)]
 
 mod run;
+mod start_and_end;
 mod suspects;
 mod system;
 mod targets;

@@ -4,6 +4,7 @@ ghost use Rattle.std.specs.List.{All};
 ghost use Rattle.flusher.specs.Post.{IsFor, names_of};
 ghost use Rattle.flusher.specs.Sealed.{IsFlushed};
 
+use crate::start_and_end::{log_end, log_no_login, log_start};
 use crate::suspects::{keep_all, suspects_of};
 use crate::system::Spools;
 use crate::targets::{by_name, hosts_of, targets_of};
@@ -11,7 +12,7 @@ use article_store::SpoolDirectory;
 use disk_model::{FileDisk, TapeDirectory, TapeFile};
 use feed_conf::{Conf, PeerConf};
 use feed_ends::{FeedEnd, FileError, Source};
-use feeder::{Feeder, FeederFault, PeerTarget, Spool, SpoolTally, Suspects, UnreadPaths};
+use feeder::{Feeder, FeederFault, Outages, PeerTarget, Spool, SpoolTally, Suspects, UnreadPaths};
 use flusher::{
     Blanks, FeederShare, Flusher, Free, IntakeShare, Naming, NoThread, Post, PostFault, PostPeer,
     Signals, run_threads,
@@ -21,16 +22,16 @@ use funnel_files::Funnel;
 use intake::{
     Countdown, CountedWorker, IntakeWorker, KeptRoom, LeftOut, LineKeeper, Nowhere, OtherFiles,
     Progress, RunError, StatusFile, StopFile, Tapes, add_all, close, flush_stations, is_followed,
-    keeper_for, most_connections, open_funnel, open_tapes, refuse_root, remove_room, remove_stop,
-    take_backlogs,
+    keeper_for, log_reason, log_tape_fault, log_unknown_lines, most_connections, open_funnel,
+    open_tapes, refuse_root, remove_room, remove_stop, take_backlogs,
 };
-use log::{Log, warn};
+use log::Log;
 use mio::Waker;
 use owed_list::log_strangers;
 use recovery::Tape;
 use resolver::{Host, LookUp, Resolver};
 use std::alloc::{AllocError, Global};
-use std::fs::File;
+use std::fs::{self, File};
 use std::io::{self, ErrorKind, Write};
 use std::marker::Brand;
 use std::net::{Net, TcpListener, TcpStream};
@@ -49,6 +50,8 @@ pub(crate) struct RunEnv<'a, R, F, H, C, L> {
     pub spools: H,
     pub net: C,
     pub look_up: L,
+    /// The program's version, for the log.
+    pub version: &'a str,
 }
 
 // What the settings say besides the peers.
@@ -84,6 +87,7 @@ struct Feeding<S> {
     spools: (Spool<S>, Spool<S>),
     tally: Arc<SpoolTally>,
     suspects: Arc<Suspects>,
+    outages: Arc<Outages>,
     // Whether they leave idle connections.
     is_lasting: bool,
     // Whether they drop each article that is missing.
@@ -144,6 +148,9 @@ pub(crate) fn feed<
     let places = places_of(env.files.alloc(), &conf)?;
     let directory = text_of(&places.directory);
     refuse_root(env.files, directory)?;
+    if is_followed(source) {
+        log_no_login(env.rt, path, &conf);
+    }
     // `tapes` holds the directory's lock until the end.
     let Tapes {
         directory: tapes,
@@ -179,7 +186,8 @@ pub(crate) fn feed<
         out,
         end,
     );
-    log_fault(env.rt, backlogs);
+    log_tape_fault(env.rt, &tapes, directory);
+    log_spool_fault(env.rt, env.files, &places.spool, end);
     if is_followed(source) {
         remove_room(env.rt, env.files, &tapes, directory);
     }
@@ -251,6 +259,15 @@ fn feed_open<
     )?;
     let funnel = open_funnel(env.rt, env.files, &env.net, source, intake.mark())?;
     let is_lasting = stop.is_some();
+    if is_lasting && let Some(funnel) = &funnel {
+        log_start(
+            env.rt,
+            env.version,
+            confs.len(),
+            funnel.path(),
+            intake.mark(),
+        );
+    }
     let taking = taking_of(env, backlogs, places, &confs, funnel, stop, keeper)?;
     let start = taking.start;
     let suspects = suspects_of(env.rt, env.files, backlogs.path, &confs)?;
@@ -266,15 +283,25 @@ fn feed_open<
     let prepared = Prepared { feeding, taking };
     let others = prepared.taking.keeper.left_out();
     log_strangers(env.rt, env.files, &places.directory, &confs, others);
+    log_unknown_lines(env.rt, env.files, backlogs.path);
     let peers = flush_stations(env.rt, env.files.alloc(), peers)?;
     let blanks = Blanks::new(env.files.alloc(), peers.len())?;
     work::<Brand, R, F, S, H, C, L, W>(env, backlogs, prepared, peers, intake, blanks, out, end)
 }
 
-// Logs why the system refused a call on a tape's file, the first one only.
-fn log_fault<R: Log>(rt: &R, backlogs: Backlogs<'_>) {
-    if let Some(fault) = backlogs.tapes.first_fault() {
-        warn!(rt; "tape file {}/{}: {}", backlogs.path, fault.name, fault.reason);
+// Logs why the directory of the articles cannot be read, if that is how a run ended, and the directory is not there.
+fn log_spool_fault<R: Log, F: Files<File = File>>(rt: &R, files: &F, spool: &[u8], end: &FeedEnd) {
+    let is_unread = end.files.iter().any(|error| match error {
+        FileError::Unread(path) => path.as_slice() == spool,
+        _ => false,
+    });
+    if !is_unread {
+        return;
+    }
+    match fs::metadata(files, text_of(spool)) {
+        Ok(there) if there.is_dir() => {}
+        Ok(_) => log_reason(rt, spool, &ErrorKind::NotADirectory.into()),
+        Err(error) => log_reason(rt, spool, &error),
     }
 }
 
@@ -308,6 +335,7 @@ fn feeding_of<R: Clock + Log, F: AllocGlobal, S: Drop, H: Spools<Store = S>, C, 
         spools: (open_spool(env, path)?, open_spool(env, path)?),
         tally: Arc::new(alloc, SpoolTally::new(alloc, path, peers.len())?)?,
         suspects: Arc::new(alloc, suspects)?,
+        outages: Arc::new(alloc, Outages::new(alloc, peers.len())?)?,
         is_lasting,
         drops_missing,
         start,
@@ -473,8 +501,8 @@ fn run_workers<
         out,
         wakers,
         names: &names,
-        status: StatusFile::new(env.files, status, start, stop.is_some()),
-        progress: Progress::new(alloc, start),
+        status: StatusFile::new(env.files, status, start),
+        progress: Progress::new(alloc, start, stop.is_some()),
         nowhere: Nowhere::new(alloc),
         keeper,
         files: env.files,
@@ -482,6 +510,8 @@ fn run_workers<
         directory: backlogs.path,
         room,
         acknowledged,
+        unprinted: None,
+        printed: None,
         nowhere_logged: start,
         countdown: &countdown,
         stop,
@@ -504,6 +534,7 @@ fn run_workers<
         status,
         stop,
         has_no_status,
+        acknowledged,
         end: intake_end,
         ..
     } = intake;
@@ -518,6 +549,10 @@ fn run_workers<
     }
     tally.log(env.rt, &names);
     close(env.rt, post, &names, (status, has_no_status), end);
+    let is_asked = stop.as_ref().is_some_and(|stop| stop.was_seen());
+    if is_asked && end.tapes.is_empty() && !end.lacks_resources {
+        log_end(env.rt, env.version, acknowledged);
+    }
     remove_stop(env.rt, stop, end);
 }
 
@@ -542,6 +577,7 @@ fn feeders_of<
         spools,
         tally,
         suspects,
+        outages,
         is_lasting,
         drops_missing,
         start,
@@ -550,12 +586,13 @@ fn feeders_of<
     let (hosts, others) = (resolver.try_clone()?, resolver.try_clone()?);
     let (one, other) = (Arc::try_clone(&tally)?, tally);
     let (suspects, same) = (Arc::try_clone(&suspects)?, suspects);
+    let (outages, as_well) = (Arc::try_clone(&outages)?, outages);
     let mut first = Feeder::new(
-        alloc, env.net, hosts, spools.0, one, suspects, 0, targets.0, start, shares.0,
+        alloc, env.net, hosts, spools.0, one, suspects, outages, 0, targets.0, start, shares.0,
     )
     .map_err(|error| lacking(env.rt, &error))?;
     let mut second = Feeder::new(
-        alloc, env.net, others, spools.1, other, same, 1, targets.1, start, shares.1,
+        alloc, env.net, others, spools.1, other, same, as_well, 1, targets.1, start, shares.1,
     )
     .map_err(|error| lacking(env.rt, &error))?;
     first.is_lasting = is_lasting;

@@ -44,7 +44,7 @@ impl Spools for HostSpools {
 }
 
 /// Feeds the peers of these settings, which were read from the file at `path`, as [`Feeds`] says. `rt` is the
-/// runtime of the threads; articles and sockets are those of `host`.
+/// runtime of the threads; articles and sockets are those of `host`; `version` is the program's, for the log.
 pub fn feed_with<
     M: AllocGlobal + Threads + Wait + Clock + Log + Send + Sync + 'static,
     F: AllocGlobal + Files<File = File>,
@@ -59,6 +59,7 @@ pub fn feed_with<
     path: &str,
     source: Source<'_>,
     drops_missing: bool,
+    version: &str,
     out: &mut W,
 ) -> FeedEnd {
     let env = RunEnv {
@@ -67,6 +68,7 @@ pub fn feed_with<
         spools: HostSpools { host },
         net: host,
         look_up,
+        version,
     };
     let mut end = FeedEnd::well(files.alloc());
     if let Err(error) = feed(&env, conf, path, source, drops_missing, out, &mut end) {
@@ -82,17 +84,25 @@ pub struct SystemFeeds<'a, R, F> {
     files: &'a F,
     host: HostRuntime,
     log: &'a RunLog,
+    version: &'a str,
     capability: PhantomData<R>,
 }
 
 impl<'a, R, F> SystemFeeds<'a, R, F> {
     /// `files` opens files in this thread, `host` articles and sockets in the others; `_threads` may start threads. A
-    /// feed begins `log`, and writes to it; a list of what is owed writes to standard error itself.
-    pub fn new(_threads: &R, files: &'a F, host: HostRuntime, log: &'a RunLog) -> Self {
+    /// feed begins `log`, and writes to it, `version` too; a list of what is owed writes to standard error itself.
+    pub fn new(
+        _threads: &R,
+        files: &'a F,
+        host: HostRuntime,
+        log: &'a RunLog,
+        version: &'a str,
+    ) -> Self {
         SystemFeeds {
             files,
             host,
             log,
+            version,
             capability: PhantomData,
         }
     }
@@ -141,6 +151,7 @@ impl<R: Threads + Wait + Send + Sync + 'static, F: AllocGlobal + Files<File = Fi
             path,
             source,
             drops_missing,
+            self.version,
             out,
         )
     }

@@ -1,5 +1,6 @@
 pub mod Blame
 pub mod Dropped
 pub mod Missing
+pub mod Reach
 pub mod Slots
 pub mod Suspects

@@ -73,6 +73,12 @@ is_waiting Vacant = false
 is_waiting Taken = false
 is_waiting (Waiting until) = true
 
+-- for how many seconds it still waits
+abbrev pub wait_left : Standing → (now : ℕ) → ℕ
+wait_left Vacant now = 0
+wait_left Taken now = 0
+wait_left (Waiting until) now = until - now
+
 -- what a slot of these waits has after these events
 abbrev pub stands_at : Slot → List Event → Standing
 stands_at slot h = standing (first_wait_of slot.backoff) (most_wait_of slot.backoff) h

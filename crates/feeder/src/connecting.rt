@@ -1,6 +1,6 @@
 // Opening connections.
 use crate::Feeder;
-use crate::logging::{log_unknown, log_unmade, name_of};
+use crate::logging::{log_unknown, log_unmade, name_of, text_of};
 use crate::peer_connection::{ConnectionOwner, PeerConnection};
 use crate::post_view::PostView;
 use article_store::SpoolDirectory;
@@ -65,8 +65,9 @@ impl<S: SpoolDirectory + Drop, C: Net + Drop, N: Naming> Feeder<S, C, N> {
                 peer.is_unknown = peer.target.addresses.is_empty();
                 // Both feeders get the answer; one logs it.
                 if self.which == 0 {
-                    log_unknown(rt, name_of(&self.peers, at), reason.as_str());
+                    log_unknown(rt, text_of(&peer.target.name), reason.as_str());
                 }
+                peer.look_up_fault = Some(reason);
             }
             None => {}
         }
@@ -151,6 +152,7 @@ impl<S: SpoolDirectory + Drop, C: Net + Drop, N: Naming> Feeder<S, C, N> {
                 view.give_room(peer.target.peer, peer.target.room());
             }
             self.unmade(view, slot, last_phase);
+            self.note_unmade(rt, at, slot, view.now, &error);
         }
     }
 

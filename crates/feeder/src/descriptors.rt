@@ -1,4 +1,5 @@
 // Want of file descriptors, which is no fault of an article.
+use funnel::Token;
 use std::fmt::{self, Display, Formatter, Write};
 use std::io;
 
@@ -20,6 +21,17 @@ pub(crate) fn lack_of(error: &io::Error) -> Option<Lacking> {
         PROCESS_ERRNO => Some(Lacking::Process),
         SYSTEM_ERRNO => Some(Lacking::System),
         _ => None,
+    }
+}
+
+/// The article that could not be read for this reason. `None`: no file descriptor was left to open it.
+pub(crate) fn unread_article<'a>(
+    token: &'a Token,
+    reason: Option<&io::Error>,
+) -> Option<&'a Token> {
+    match reason.and_then(lack_of) {
+        Some(_) => None,
+        None => Some(token),
     }
 }
 

@@ -3,7 +3,7 @@ ghost use Rattle.std.specs.Prelude.{◌≡◌, ◌+◌, ◌-◌, ◌/◌, ◌%�
 
 use crate::peer_connection::PeerConnection;
 use crate::peer_state::PeerState;
-use crate::{FeederFault, PeerTarget, Slot, Spool, SpoolTally, Suspects, UnreadPaths};
+use crate::{FeederFault, Outages, PeerTarget, Slot, Spool, SpoolTally, Suspects, UnreadPaths};
 use article_store::SpoolDirectory;
 use flusher::{FeederShare, Naming};
 use mio::{Events, Poll, Token, Waker};
@@ -48,6 +48,8 @@ pub struct Feeder<S: SpoolDirectory + Drop, C: Net + Drop, N: Naming> {
     pub(crate) tally: Arc<SpoolTally>,
     // What it shares with the other feeder about suspects.
     pub(crate) suspects: Arc<Suspects>,
+    // What it shares with the other feeder about peers that are down.
+    pub(crate) outages: Arc<Outages>,
     // It has seen that an article of the run was found.
     pub(crate) has_found: bool,
     // The second in which it logged last what was dropped.
@@ -79,8 +81,9 @@ pub struct Feeder<S: SpoolDirectory + Drop, C: Net + Drop, N: Naming> {
 
 impl<S: SpoolDirectory + Drop, C: Net + Drop, N: Naming> Feeder<S, C, N> {
     /// The first feeder (`which` is 0) or the second (1): it has connection k of each peer if k mod 2 is `which`.
-    /// Articles come from `spool`, about which the two feeders share `tally`, as they share `suspects`; `start` is the
-    /// time 0 of all threads, `net` the capability to open sockets, and `hosts` looks up the peers' hosts.
+    /// Articles come from `spool`, about which the two feeders share `tally`, as they share `suspects` and
+    /// `outages`; `start` is the time 0 of all threads, `net` the capability to open sockets, and `hosts` looks up the
+    /// peers' hosts.
     ///
     /// # Errors
     /// The system's, if no poll can be made; memory was refused.
@@ -91,6 +94,7 @@ impl<S: SpoolDirectory + Drop, C: Net + Drop, N: Naming> Feeder<S, C, N> {
         spool: Spool<S>,
         tally: Arc<SpoolTally>,
         suspects: Arc<Suspects>,
+        outages: Arc<Outages>,
         which: u8,
         targets: Vec<PeerTarget>,
         start: Instant,
@@ -116,6 +120,7 @@ impl<S: SpoolDirectory + Drop, C: Net + Drop, N: Naming> Feeder<S, C, N> {
             spool,
             tally,
             suspects,
+            outages,
             has_found: false,
             drops_logged: 0,
             start,

@@ -152,7 +152,8 @@ impl<S: SpoolDirectory + Drop, C: Net + Drop, N: Naming> Feeder<S, C, N> {
         Ok(())
     }
 
-    // If a second has passed, ticks each connection, has the slots checked, and logs what was dropped if that is due.
+    // If a second has passed, ticks each connection, has the slots checked, and logs which peers are down and what was
+    // dropped if that is due.
     fn pass_second<D: Disk, R: Wait + Log, P: Pace>(
         &mut self,
         rt: &R,
@@ -166,6 +167,7 @@ impl<S: SpoolDirectory + Drop, C: Net + Drop, N: Naming> Feeder<S, C, N> {
         for key in 0..self.connections.capacity() {
             self.tick_one(rt, view, key);
         }
+        self.tell_outages(rt, view.now);
         if self.is_lasting && self.which == 0 && is_log_due(self.drops_logged, view.now) {
             self.drops_logged = view.now;
             self.log_drops(rt);
@@ -222,34 +224,17 @@ impl<S: SpoolDirectory + Drop, C: Net + Drop, N: Naming> Feeder<S, C, N> {
         view: &PostView<'_, D, N, P>,
         key: usize,
     ) -> Result<(), FeederFault> {
-        let Some(connection) = self.connections.get_mut(key) else {
+        let Some((connection, mut env)) = self.connection_and_env(key) else {
             return Ok(());
         };
         if !connection.needs_service() {
             return Ok(());
         }
-        let Some(slot) = self.slots.get(connection.slot()) else {
-            return Ok(());
-        };
-        let at = slot.target();
-        let Some(peer) = self.peers.get_mut(at) else {
-            return Ok(());
-        };
-        let mut env = ServiceEnv {
-            peer,
-            spool: &mut self.spool,
-            tally: &self.tally,
-            suspects: &self.suspects,
-            drops_missing: self.drops_missing,
-            buffer: &mut self.buffer,
-            share: &mut self.share,
-            unread: &mut self.unread,
-            gives_up: !self.is_lasting,
-        };
+        let slot = connection.slot();
         match service(connection, rt, view, &mut env) {
             Ok(()) => {}
             Err(fault) if is_of_tape(fault) => {
-                self.lose_peer(rt, view, at, fault);
+                self.lose_peer(rt, view, slot, fault);
                 return Ok(());
             }
             Err(fault) => return Err(fault),
@@ -261,8 +246,31 @@ impl<S: SpoolDirectory + Drop, C: Net + Drop, N: Naming> Feeder<S, C, N> {
         Ok(())
     }
 
+    /// A connection, and what servicing it uses.
+    pub(crate) fn connection_and_env(
+        &mut self,
+        key: usize,
+    ) -> Option<(&mut PeerConnection, ServiceEnv<'_, S, N>)> {
+        let slot = self.connections.get(key)?.slot();
+        let at = self.slots.get(slot)?.target();
+        let (drops_missing, gives_up) = (self.drops_missing, !self.is_lasting);
+        let connection = self.connections.get_mut(key)?;
+        let env = ServiceEnv {
+            peer: self.peers.get_mut(at)?,
+            spool: &mut self.spool,
+            tally: &self.tally,
+            suspects: &self.suspects,
+            drops_missing,
+            buffer: &mut self.buffer,
+            share: &mut self.share,
+            unread: &mut self.unread,
+            gives_up,
+        };
+        Some((connection, env))
+    }
+
     // Notes at a connection's slot that its peer has agreed to a mode, if it just has.
-    fn on_agreed<D: Disk, R: Log, P: Pace>(
+    fn on_agreed<D: Disk, R: Wait + Log, P: Pace>(
         &mut self,
         rt: &R,
         view: &PostView<'_, D, N, P>,
@@ -282,17 +290,22 @@ impl<S: SpoolDirectory + Drop, C: Net + Drop, N: Naming> Feeder<S, C, N> {
             slot.agreed();
             let name = name_of(&self.peers, slot.target());
             log_connected(rt, name, connection.address(), connection.mode());
+            self.note_agreed(rt, key);
         }
     }
 
-    // A peer's tape failed: drops the peer's connections. The peer gets no more debts in this run.
+    // The tape of a slot's peer failed: drops the peer's connections. The peer gets no more debts in this run.
     fn lose_peer<D: Disk, R: Wait + Log, P: Pace>(
         &mut self,
         rt: &R,
         view: &PostView<'_, D, N, P>,
-        at: usize,
+        slot: usize,
         fault: FeederFault,
     ) {
+        let Some(slot) = self.slots.get(slot) else {
+            return;
+        };
+        let at = slot.target();
         self.keep_fault(fault);
         self.has_lost_tape = true;
         log_stopped(rt, name_of(&self.peers, at), "its tape failed");
@@ -311,7 +324,7 @@ impl<S: SpoolDirectory + Drop, C: Net + Drop, N: Naming> Feeder<S, C, N> {
     }
 
     // Drops a connection whose peer's tape failed. What it holds is left to the next run.
-    fn drop_lost<D: Disk, R: Log, P: Pace>(
+    fn drop_lost<D: Disk, R: Wait + Log, P: Pace>(
         &mut self,
         rt: &R,
         view: &PostView<'_, D, N, P>,
@@ -345,7 +358,7 @@ impl<S: SpoolDirectory + Drop, C: Net + Drop, N: Naming> Feeder<S, C, N> {
     }
 
     // A connection is dropped: passes on to its slot how it ended, and logs that.
-    fn on_over<D: Disk, R: Log, P: Pace>(
+    fn on_over<D: Disk, R: Wait + Log, P: Pace>(
         &mut self,
         rt: &R,
         view: &PostView<'_, D, N, P>,
@@ -378,6 +391,7 @@ impl<S: SpoolDirectory + Drop, C: Net + Drop, N: Naming> Feeder<S, C, N> {
             log_deferred(rt, name, connection.take_deferred());
             log_over(rt, name, &connection);
         }
+        self.note_over(rt, view.now, &connection);
     }
 
     // Whether no debt of its peers is ready or held, or could still be sent by this feeder. A connection that is to be

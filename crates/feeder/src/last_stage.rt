@@ -1,13 +1,15 @@
 // Suspects of earlier runs: when their debts are offered. In the last stage of the last phase each is offered once.
 ghost use Rattle.std.specs.Prelude.{◌≡◌, ◌+◌, ◌-◌, ◌^◌, ℕ, Some, None, false, true, min};
-ghost use Rattle.std.specs.Prelude.{if◌then◌else◌};
-ghost use Rattle.feeder.specs.Suspects.{claim_step};
+ghost use Rattle.feeder.specs.Suspects.{claim_step, stage_moment};
 
 // How long a suspect is put off when it is claimed first, in a run that goes on until it is ended.
 const SUSPECT_WAIT_SECONDS: u64 = 60;
 
-/// Until when what is offered in the last stage alone waits. Up to this moment debts that wait are offered in it.
-pub(crate) const LAST_STAGE_MOMENT: u64 = u64::MAX - 1;
+// The first moment of the last stage. All moments but the greatest, up to which waits what waits for the next run, are
+// those of the suspects' places.
+const LAST_STAGE_BEGIN: u64 = u64::MAX - 4_096;
+
+const PLACE_MAX: u64 = 4_095;
 
 /// What to do about a debt that was claimed.
 #[derive(Clone, Copy, Debug, PartialEq, Eq)]
@@ -18,38 +20,36 @@ pub(crate) enum ClaimStep {
     PutOff { until: u64 },
 }
 
-/// What to do about a debt that was claimed at this moment. A suspect that was not offered in this run waits for the
-/// last stage; if the run goes on until it is ended, for a minute. In the last stage nothing else is offered, and what
-/// is claimed besides waits for the next run.
+/// The moment of the last stage at which the suspect with this place is offered. Those with lesser places come before
+/// it.
+pub(crate) fn stage_moment(place: u64) -> u64
+    ensures { result ≡ stage_moment place }
+{
+    LAST_STAGE_BEGIN + place.min(PLACE_MAX)
+}
+
+/// What to do about a debt that was claimed at this moment, and has this place if it is a suspect that was not offered
+/// in this run. Such a suspect waits for its moment of the last stage; if the run goes on until it is ended, for a
+/// minute. In the last stage nothing else is offered, and what is claimed besides waits for the next run.
 pub(crate) fn claim_step(
     now: u64,
-    is_suspect: bool,
+    place: Option<u64>,
     is_lasting: bool,
     is_last_stage: bool,
 ) -> ClaimStep
-    ensures { result ≡ claim_step now is_suspect is_lasting is_last_stage }
+    ensures { result ≡ claim_step now place is_lasting is_last_stage }
 {
-    match (is_suspect, is_last_stage) {
-        (true, true) | (false, false) => ClaimStep::Offer,
-        (false, true) => ClaimStep::PutOff { until: u64::MAX },
-        (true, false) => ClaimStep::PutOff {
+    match (place, is_last_stage) {
+        (Some(_), true) | (None, false) => ClaimStep::Offer,
+        (None, true) => ClaimStep::PutOff { until: u64::MAX },
+        (Some(place), false) => ClaimStep::PutOff {
             until: if is_lasting {
                 now.saturating_add(SUSPECT_WAIT_SECONDS)
             } else {
-                LAST_STAGE_MOMENT
+                stage_moment(place)
             },
         },
     }
-}
-
-/// Up to when debts that wait are claimed: in the last stage all of them are, but for those that wait for the next run.
-pub(crate) fn claimed_due(due: u64, is_last_stage: bool) -> u64
-    ensures { result ≡ (if is_last_stage then 2 ^ 64 - 2 else due) }
-{
-    if is_last_stage {
-        return LAST_STAGE_MOMENT;
-    }
-    due
 }
 
 /// Until when the debt at which a connection failed is put off, if it is to be for so many seconds. In the last stage

@@ -9,8 +9,9 @@ use conn_core::{Mode, Reason};
 use funnel::{MsgId, PeerName, Token};
 use log::{Log, info, warn};
 use std::fmt::{self, Display, Formatter, Write};
+use std::io::{self, ErrorKind};
 use std::net::SocketAddr;
-use std::{io, str};
+use std::str;
 
 pub(crate) fn name_of(peers: &[PeerState], at: usize) -> &str {
     match peers.get(at) {
@@ -38,9 +39,11 @@ pub(crate) fn log_connected<R: Log>(rt: &R, name: &str, address: SocketAddr, mod
     }
 }
 
-/// The system refused what a feeder can't do without.
+/// The system refused what a feeder can't do without, which ends the run. Nothing is logged for want of memory.
 pub(crate) fn log_refused<R: Log>(rt: &R, what: &str, error: &io::Error) {
-    info!(rt; "cannot {}: {}", what, error);
+    if error.kind() != ErrorKind::OutOfMemory {
+        warn!(rt; "cannot {}: {}", what, error);
+    }
 }
 
 /// A connection could not be begun.
@@ -51,24 +54,47 @@ pub(crate) fn log_unmade<R: Log>(rt: &R, name: &str, error: &io::Error) {
 /// A connection has closed, or could not be made. Nothing is logged of one that the feeder ended before its peer had
 /// agreed to a mode.
 pub(crate) fn log_over<R: Log>(rt: &R, name: &str, connection: &PeerConnection) {
-    if connection.is_left_early() {
+    if connection.is_left_early() || connection.closed().is_none() {
         return;
     }
-    match (connection.failure(), connection.closed()) {
-        (Some(error), _) => {
-            info!(rt; "{}: cannot connect to {}: {}", name, connection.address(), error)
+    info!(rt; "{}: {}", name, HowOver(connection));
+}
+
+/// How a connection ended, in words.
+#[derive(Clone, Copy)]
+pub(crate) struct HowOver<'a>(pub &'a PeerConnection);
+
+impl Display for HowOver<'_> {
+    fn fmt<W: Write>(&self, f: &mut Formatter<W>) -> fmt::Result {
+        let connection = self.0;
+        let address = connection.address();
+        if let Some(error) = connection.failure() {
+            return write!(f, "cannot connect to {}: {}", address, error);
         }
-        (None, Some(Reason::Quit)) => {
-            info!(rt; "{}: closed {} in good order", name, connection.address())
+        match connection.closed() {
+            Some(Reason::Quit) => write!(f, "closed {} in good order", address),
+            Some(reason) => write!(
+                f,
+                "closed {} {}: {}{}",
+                address,
+                connection.stage(),
+                connection.close_reason(),
+                advice(reason)
+            ),
+            None => Ok(()),
         }
-        (None, Some(reason)) => {
-            info!(
-                rt; "{}: closed {} {}: {}{}",
-                name, connection.address(), connection.stage(), connection.close_reason(), advice(reason)
-            )
-        }
-        (None, None) => {}
     }
+}
+
+/// A peer is down, for this reason. The slot that failed is tried again after so many seconds. This is a warning, as is
+/// the end of it: an administrator wants to know which peers get nothing.
+pub(crate) fn log_down<R: Log>(rt: &R, name: &str, reason: &str, wait: u64) {
+    warn!(rt; "{} is down: {}; next try in {} s", name, reason, wait);
+}
+
+/// It was logged that a peer is down, and it has agreed to a mode.
+pub(crate) fn log_up<R: Log>(rt: &R, name: &str) {
+    warn!(rt; "{} is up again", name);
 }
 
 /// A connection to a peer failed at this article, which is offered again later. This is a warning: an administrator
@@ -205,15 +231,44 @@ const CURE: &str =
     ": news-spool has to be the directory of the copies, not innd's spool; --expired drops what is missing";
 
 /// The article under a token can't be read from its file in the spool at this path. If there was no file descriptor
-/// left for it, that is said instead.
-pub(crate) fn log_unread<R: Log>(rt: &R, spool: &str, token: &Token, reason: Option<&io::Error>) {
-    let token = token_text(token);
-    let Some(error) = reason else {
-        return info!(rt; "cannot read {}/{}", spool, token);
+/// left for it, that is said instead. It is a warning the first time that it makes the run fail.
+pub(crate) fn log_unread<R: Log>(
+    rt: &R,
+    spool: &str,
+    token: &Token,
+    reason: Option<&io::Error>,
+    is_first: bool,
+) {
+    let unread = Unread {
+        spool,
+        token,
+        reason,
     };
-    match lack_of(error) {
-        Some(lacked) => info!(rt; "{}", LackedBy { lacked, error }),
-        None => info!(rt; "cannot read {}/{}: {}", spool, token, error),
+    if is_first {
+        warn!(rt; "{}", unread);
+    } else {
+        info!(rt; "{}", unread);
+    }
+}
+
+// That an article can't be read, and why.
+#[derive(Clone, Copy)]
+struct Unread<'a> {
+    spool: &'a str,
+    token: &'a Token,
+    reason: Option<&'a io::Error>,
+}
+
+impl Display for Unread<'_> {
+    fn fmt<W: Write>(&self, f: &mut Formatter<W>) -> fmt::Result {
+        let (spool, token) = (self.spool, token_text(self.token));
+        let Some(error) = self.reason else {
+            return write!(f, "cannot read {}/{}", spool, token);
+        };
+        match lack_of(error) {
+            Some(lacked) => write!(f, "{}", LackedBy { lacked, error }),
+            None => write!(f, "cannot read {}/{}: {}", spool, token, error),
+        }
     }
 }
 

@@ -4,6 +4,7 @@ ghost use Rattle.std.specs.Prelude.{◌≡◌, ◌<◌, ◌≤◌, ◌/◌};
 use crate::Spool;
 use crate::blame::{Blame, ConnectionEnd};
 use crate::close_reason::{CloseReason, ObservedEnd, SessionStage, begins_with_code};
+use crate::descriptors::unread_article;
 use crate::last_stage::failed_until;
 use crate::line_head::LineHead;
 use crate::logging::log_unread;
@@ -568,11 +569,11 @@ impl PeerConnection {
         let key = debt.key();
         match spool.store.fetch(debt.token()) {
             Ok(Found::Gone) if !spool.store.is_there() => {
-                unread.add(self.alloc, &spool.path, None);
+                let _ = unread.add(self.alloc, &spool.path, None);
                 return self.break_for_spool(ObservedEnd::NoSpool);
             }
             Ok(Found::Gone) if rule.is_out_of_reach(debt.token()) => {
-                unread.add(self.alloc, &spool.path, None);
+                let _ = unread.add(self.alloc, &spool.path, None);
                 self.unread = Some(key);
                 return self.break_for_spool(ObservedEnd::NoneFound);
             }
@@ -584,8 +585,9 @@ impl PeerConnection {
             }
             Err(StoreFault::Disk) => {
                 let reason = spool.store.take_reason();
-                log_unread(rt, &spool.path, debt.token(), reason.as_ref());
-                unread.add(self.alloc, &spool.path, Some(debt.token()));
+                let article = unread_article(debt.token(), reason.as_ref());
+                let is_new = unread.add(self.alloc, &spool.path, article);
+                log_unread(rt, &spool.path, debt.token(), reason.as_ref(), is_new);
                 self.unread = Some(key);
                 self.end(ObservedEnd::Unread(reason));
             }

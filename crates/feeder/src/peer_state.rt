@@ -1,6 +1,7 @@
 // A peer, as one feeder works for it.
 use crate::PeerTarget;
 use crate::setbacks::Setbacks;
+use crate::told_outages::UntoldOutage;
 use std::alloc::Global;
 
 // How often in a run a peer's slots are tried again at once, after a connection that failed once its peer had agreed to
@@ -18,6 +19,10 @@ pub(crate) struct PeerState {
     pub asked: Option<u64>,
     /// Its host is unknown, and its slots that are due are to fail for that.
     pub is_unknown: bool,
+    /// Why its host could not be looked up, by the resolver's latest answer.
+    pub look_up_fault: Option<String>,
+    /// Why it is down, until that is told.
+    pub untold: Option<UntoldOutage>,
     /// It gets no more debts in this run: its tape failed, or the spool is missing.
     pub is_closed: bool,
     /// All else of it is done, and its suspects of earlier runs are offered, each once.
@@ -36,6 +41,8 @@ impl PeerState {
             seen: 0,
             asked: None,
             is_unknown: false,
+            look_up_fault: None,
+            untold: None,
             is_closed: false,
             is_last_stage: false,
             retries,

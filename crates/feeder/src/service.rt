@@ -2,7 +2,7 @@
 ghost use Rattle.std.specs.Prelude.{◌≡◌, IfOk};
 
 use crate::drop_count::DroppedArticle;
-use crate::last_stage::{ClaimStep, claim_step, claimed_due};
+use crate::last_stage::{ClaimStep, claim_step, stage_moment};
 use crate::logging::{log_kept, log_missing, log_postponed, log_suspect, log_unsendable, text_of};
 use crate::missing::{Step, step_of};
 use crate::peer_connection::PeerConnection;
@@ -16,7 +16,7 @@ use conn_core::Outcome;
 use disk_model::Disk;
 use flusher::{FeederShare, Naming, Pace};
 use funnel::{MsgId, Token};
-use ledger_core::{Cause, Debt};
+use ledger_core::{Cause, Debt, Key};
 use log::Log;
 use peer_queue::key_in;
 use std::alloc::AllocError;
@@ -45,6 +45,17 @@ pub(crate) struct ServiceEnv<'a, S, N: Naming> {
     pub gives_up: bool,
 }
 
+impl<'a, S, N: Naming> ServiceEnv<'a, S, N> {
+    // What becomes of articles that are missing.
+    fn rule(&self) -> SpoolRule<'a> {
+        SpoolRule {
+            tally: self.tally,
+            drops_missing: self.drops_missing,
+            is_lasting: !self.gives_up,
+        }
+    }
+}
+
 /// Does all that can be done on a connection without waiting. What came goes first: it frees the window, so that one
 /// service turns a window of replies into new articles.
 ///
@@ -56,37 +67,15 @@ pub(crate) fn service<D: Disk, N: Naming, S: SpoolDirectory, R: Wait + Log, P: P
     view: &PostView<'_, D, N, P>,
     env: &mut ServiceEnv<'_, S, N>,
 ) -> Result<(), FeederFault> {
-    let rule = SpoolRule {
-        tally: env.tally,
-        drops_missing: env.drops_missing,
-        is_lasting: !env.gives_up,
-    };
     connection.clear_marks();
     connection.receive(env.buffer);
-    settle(
-        connection,
-        rt,
-        view,
-        env.peer,
-        env.suspects,
-        rule,
-        env.share,
-    )?;
+    settle(connection, rt, view, env)?;
     if connection.has_kept_outcome() {
         let _ = connection.send();
-    } else {
-        fill_and_send(connection, rt, view, rule, env)?;
-        settle(
-            connection,
-            rt,
-            view,
-            env.peer,
-            env.suspects,
-            rule,
-            env.share,
-        )?;
+        return Ok(());
     }
-    Ok(())
+    fill_and_send(connection, rt, view, env)?;
+    settle(connection, rt, view, env)
 }
 
 /// Takes the outcomes of a connection's debts to its peer's front, oldest first, until the front needs a flush first,
@@ -94,22 +83,17 @@ pub(crate) fn service<D: Disk, N: Naming, S: SpoolDirectory, R: Wait + Log, P: P
 ///
 /// # Errors
 /// The post's fault, if no flush helps; the connection keeps the outcome.
-pub(crate) fn settle<D: Disk, N: Naming, R: Wait + Log, P: Pace>(
+pub(crate) fn settle<D: Disk, N: Naming, S, R: Wait + Log, P: Pace>(
     connection: &mut PeerConnection,
     rt: &R,
     view: &PostView<'_, D, N, P>,
-    peer: &mut PeerState,
-    suspects: &Suspects,
-    rule: SpoolRule<'_>,
-    share: &mut FeederShare<N>,
+    env: &mut ServiceEnv<'_, S, N>,
 ) -> Result<(), FeederFault> {
     for _ in 0..u64::MAX {
         let Some(outcome) = connection.next_outcome() else {
             return Ok(());
         };
-        if let Err((outcome, fault)) = settle_one(
-            connection, rt, view, peer, suspects, rule, share, outcome,
-        ) {
+        if let Err((outcome, fault)) = settle_one(connection, rt, view, env, outcome) {
             connection.keep(outcome);
             return retry_later(connection, fault);
         }
@@ -119,53 +103,53 @@ pub(crate) fn settle<D: Disk, N: Naming, R: Wait + Log, P: Pace>(
 
 // Takes an outcome to the station. The debt at which the connection failed is put off, and so is one whose article is
 // missing and kept.
-fn settle_one<D: Disk, N: Naming, R: Wait + Log, P: Pace>(
+fn settle_one<D: Disk, N: Naming, S, R: Wait + Log, P: Pace>(
     connection: &mut PeerConnection,
     rt: &R,
     view: &PostView<'_, D, N, P>,
-    peer: &mut PeerState,
-    suspects: &Suspects,
-    rule: SpoolRule<'_>,
-    share: &mut FeederShare<N>,
+    env: &mut ServiceEnv<'_, S, N>,
     outcome: Outcome,
 ) -> Result<(), (Outcome, FeederFault)> {
-    let postponed = judge(connection, rt, peer, suspects, view.now, &outcome);
-    match step_of(
-        outcome,
-        postponed,
-        rule.tally.has_found(),
-        rule.drops_missing,
-    ) {
-        Step::PutOff { debt, until } => put_off(connection, rt, view, peer, debt, until),
-        Step::Keep(debt) => keep(connection, rt, view, rule, debt),
+    let postponed = judge(connection, rt, view.now, env, &outcome);
+    match step_of(outcome, postponed, env.tally.has_found(), env.drops_missing) {
+        Step::PutOff { debt, until } => put_off(connection, rt, view, env.peer, debt, until),
+        Step::Keep(debt) => keep(connection, rt, view, env.tally, debt),
         Step::Finish(Outcome::Lost(debt, cause)) => {
             let key = debt.key();
-            lose(connection, rt, view, rule, share, debt, cause)?;
-            peer.setbacks.forget(key);
-            suspects.forget(rt, connection.peer(), key);
+            lose(connection, rt, view, env, debt, cause)?;
+            forget(connection, rt, env, key);
             Ok(())
         }
         Step::Finish(outcome) => {
             let key = key_in(&outcome);
             let is_end = matches!(outcome, Outcome::Final(_));
-            view.finish(rt, connection.peer(), connection.id(), outcome, share)?;
+            view.finish(rt, connection.peer(), connection.id(), outcome, env.share)?;
             if is_end {
-                peer.setbacks.forget(key);
-                suspects.forget(rt, connection.peer(), key);
+                forget(connection, rt, env, key);
             }
             Ok(())
         }
     }
 }
 
+// The debt of this key has ended: nothing is remembered of it.
+fn forget<S, N: Naming, R: Wait>(
+    connection: &PeerConnection,
+    rt: &R,
+    env: &mut ServiceEnv<'_, S, N>,
+    key: Key,
+) {
+    env.peer.setbacks.forget(key);
+    env.suspects.forget(rt, connection.peer(), key);
+}
+
 // Until when the debt of this outcome is to be put off, because the connection failed at it; `None` if it is not. In
 // both cases such a debt is a suspect from then on, unless only the spool is at fault.
-fn judge<R: Wait>(
+fn judge<S, N: Naming, R: Wait>(
     connection: &mut PeerConnection,
     rt: &R,
-    peer: &mut PeerState,
-    suspects: &Suspects,
     now: u64,
+    env: &mut ServiceEnv<'_, S, N>,
     outcome: &Outcome,
 ) -> Option<u64> {
     let Outcome::Back(debt) = outcome else {
@@ -175,25 +159,24 @@ fn judge<R: Wait>(
         return None;
     }
     if !connection.is_without_spool() {
-        suspects.add(rt, connection.peer(), debt);
+        env.suspects.add(rt, connection.peer(), debt);
     }
-    connection.judge(debt.key(), peer, now)
+    connection.judge(debt.key(), env.peer, now)
 }
 
 // Drops a debt whose article is missing or cannot be sent, logs that, and counts it.
-fn lose<D: Disk, N: Naming, R: Wait + Log, P: Pace>(
+fn lose<D: Disk, N: Naming, S, R: Wait + Log, P: Pace>(
     connection: &mut PeerConnection,
     rt: &R,
     view: &PostView<'_, D, N, P>,
-    rule: SpoolRule<'_>,
-    share: &mut FeederShare<N>,
+    env: &mut ServiceEnv<'_, S, N>,
     debt: Debt,
     cause: Cause,
 ) -> Result<(), (Outcome, FeederFault)> {
     let key = debt.key();
     let texts = texts_of(&debt);
     let outcome = Outcome::Lost(debt, cause);
-    view.finish(rt, connection.peer(), connection.id(), outcome, share)?;
+    view.finish(rt, connection.peer(), connection.id(), outcome, env.share)?;
     let fault = connection.take_fault(key);
     let article = match texts {
         Ok((token, id)) => Some(DroppedArticle { token, id, fault }),
@@ -205,7 +188,7 @@ fn lose<D: Disk, N: Naming, R: Wait + Log, P: Pace>(
             _ => log_unsendable(rt, article),
         }
     }
-    rule.tally.add_drop(rt, connection.peer(), cause, article);
+    env.tally.add_drop(rt, connection.peer(), cause, article);
     Ok(())
 }
 
@@ -221,7 +204,7 @@ fn keep<D: Disk, N: Naming, R: Wait + Log, P: Pace>(
     connection: &PeerConnection,
     rt: &R,
     view: &PostView<'_, D, N, P>,
-    rule: SpoolRule<'_>,
+    tally: &SpoolTally,
     debt: Debt,
 ) -> Result<(), (Outcome, FeederFault)> {
     let token: Result<Token, AllocError> = debt.token().clone();
@@ -235,7 +218,7 @@ fn keep<D: Disk, N: Naming, R: Wait + Log, P: Pace>(
         Ok(()) => {
             if let Ok(token) = token {
                 log_kept(rt, &token);
-                rule.tally.add_missing(rt, &token);
+                tally.add_missing(rt, &token);
             }
             Ok(())
         }
@@ -295,9 +278,9 @@ fn fill_and_send<D: Disk, N: Naming, S: SpoolDirectory, R: Wait + Log, P: Pace>(
     connection: &mut PeerConnection,
     rt: &R,
     view: &PostView<'_, D, N, P>,
-    rule: SpoolRule<'_>,
     env: &mut ServiceEnv<'_, S, N>,
 ) -> Result<(), FeederFault> {
+    let rule = env.rule();
     let mut sent = 0u64;
     for _ in 0..ROUNDS_MAX {
         if !env.peer.is_closed {
@@ -318,31 +301,58 @@ fn fill_and_send<D: Disk, N: Naming, S: SpoolDirectory, R: Wait + Log, P: Pace>(
     Ok(())
 }
 
-// Claims debts and offers them, while the connection takes them and none was refused. In the last stage one is offered
-// at a time, so that it is known at which one a connection fails.
+// Claims debts and offers them, while the connection takes them and none was refused.
 fn offer<D: Disk, N: Naming, S, R: Wait + Log, P: Pace>(
     connection: &mut PeerConnection,
     rt: &R,
     view: &PostView<'_, D, N, P>,
     env: &ServiceEnv<'_, S, N>,
 ) -> Result<(), FeederFault> {
-    let is_last_stage = env.peer.is_last_stage;
-    let due = claimed_due(view.due, is_last_stage);
+    if env.peer.is_last_stage {
+        return offer_suspects(connection, rt, view, env);
+    }
     for _ in 0..u64::MAX {
-        if !view.claims || connection.has_kept_outcome() || !connection.is_ready() {
+        if !is_ready(connection, view) {
             return Ok(());
         }
-        if is_last_stage && connection.holds_debts() {
-            return Ok(());
-        }
-        match view.claim(rt, connection.peer(), connection.id(), due) {
+        match view.claim(rt, connection.peer(), connection.id(), view.due) {
             Ok(Some(debt)) => offer_or_put_off(connection, rt, view, env, debt)?,
-            Ok(None) => {
-                if is_last_stage {
-                    env.suspects.end_pending(rt, connection.peer());
-                }
-                return Ok(());
-            }
+            Ok(None) => return Ok(()),
+            Err(fault) => return retry_later(connection, fault),
+        }
+    }
+    Ok(())
+}
+
+// Whether a debt can be claimed for this connection.
+fn is_ready<D: Disk, N: Naming, P: Pace>(
+    connection: &PeerConnection,
+    view: &PostView<'_, D, N, P>,
+) -> bool {
+    view.claims && !connection.has_kept_outcome() && connection.is_ready()
+}
+
+// In the last stage: claims and offers the pending suspect with the least place, and nothing else while the connection
+// holds it, so that it is known at which one a connection fails.
+fn offer_suspects<D: Disk, N: Naming, S, R: Wait + Log, P: Pace>(
+    connection: &mut PeerConnection,
+    rt: &R,
+    view: &PostView<'_, D, N, P>,
+    env: &ServiceEnv<'_, S, N>,
+) -> Result<(), FeederFault> {
+    let peer = connection.peer();
+    for _ in 0..u64::MAX {
+        if !is_ready(connection, view) || connection.holds_debts() {
+            return Ok(());
+        }
+        let Some(place) = env.suspects.first_place(rt, peer) else {
+            return Ok(());
+        };
+        match view.claim(rt, peer, connection.id(), stage_moment(place)) {
+            Ok(Some(debt)) => offer_or_put_off(connection, rt, view, env, debt)?,
+            // If a debt is held, it may be the one with this place, which the other feeder has just claimed.
+            Ok(None) if !view.all_later(peer)? => return Ok(()),
+            Ok(None) => env.suspects.end_pending(rt, peer, place),
             Err(fault) => return retry_later(connection, fault),
         }
     }
@@ -358,21 +368,21 @@ fn offer_or_put_off<D: Disk, N: Naming, S, R: Wait + Log, P: Pace>(
     debt: Debt,
 ) -> Result<(), FeederFault> {
     let (suspects, peer) = (env.suspects, connection.peer());
-    let is_suspect = suspects.is_pending(rt, peer, &debt);
+    let place = suspects.place(rt, peer, &debt);
     let is_lasting = !env.gives_up;
-    match claim_step(view.now, is_suspect, is_lasting, env.peer.is_last_stage) {
+    match claim_step(view.now, place, is_lasting, env.peer.is_last_stage) {
         ClaimStep::Offer => {
-            if is_suspect {
+            if place.is_some() {
                 suspects.meet(rt, peer, &debt);
             }
             connection.offer(debt);
             Ok(())
         }
         ClaimStep::PutOff { until } => {
-            if is_suspect {
+            if place.is_some() {
                 log_suspect(rt, text_of(&env.peer.target.name), debt.token(), debt.id());
             }
-            if is_suspect && is_lasting {
+            if place.is_some() && is_lasting {
                 suspects.meet(rt, peer, &debt);
             }
             put_off_claimed(connection, rt, view, debt, until)

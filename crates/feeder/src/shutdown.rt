@@ -1,7 +1,6 @@
 // The end of a feeder's work.
 use crate::post_view::PostView;
 use crate::service::settle;
-use crate::spool_tally::SpoolRule;
 use crate::uptime::Uptime;
 use crate::{Feeder, FeederFault};
 use article_store::SpoolDirectory;
@@ -32,7 +31,7 @@ impl<S: SpoolDirectory + Drop, C: Net + Drop, N: Naming> Feeder<S, C, N> {
         let _ = self.await_goodbyes(rt, &view, signals);
         self.break_all(rt, &view);
         if self.tally.end() && self.tally.missing(rt) > 0 {
-            self.unread.add(self.alloc, &self.spool.path, None);
+            let _ = self.unread.add(self.alloc, &self.spool.path, None);
         }
     }
 
@@ -82,27 +81,9 @@ impl<S: SpoolDirectory + Drop, C: Net + Drop, N: Naming> Feeder<S, C, N> {
         view: &PostView<'_, D, N, P>,
         key: usize,
     ) {
-        let Some(connection) = self.connections.get_mut(key) else {
-            return;
-        };
-        connection.give_up();
-        if let Some(slot) = self.slots.get(connection.slot())
-            && let Some(peer) = self.peers.get_mut(slot.target())
-        {
-            let rule = SpoolRule {
-                tally: &self.tally,
-                drops_missing: self.drops_missing,
-                is_lasting: self.is_lasting,
-            };
-            let _ = settle(
-                connection,
-                rt,
-                view,
-                peer,
-                &self.suspects,
-                rule,
-                &mut self.share,
-            );
+        if let Some((connection, mut env)) = self.connection_and_env(key) {
+            connection.give_up();
+            let _ = settle(connection, rt, view, &mut env);
         }
     }
 }

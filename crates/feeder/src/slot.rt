@@ -34,6 +34,7 @@ enum Standing {
 impl Slot {
     ghost use Rattle.feeder.specs.Slots.{Event, Tried, Agreed, Lost, Left};
     ghost use Rattle.feeder.specs.Slots.{IsSameSlot, StandsFor, is_due, is_waiting, stands_at, tries, unmade};
+    ghost use Rattle.feeder.specs.Slots.{wait_left};
 
     /// A slot that was never tried, with the index of its peer's target, its first wait and its longest wait, in
     /// seconds.
@@ -76,6 +77,18 @@ impl Slot {
             Standing::Vacant => false,
             Standing::Taken => false,
             Standing::Waiting { .. } => true,
+        }
+    }
+
+    /// For how many seconds it still waits: 0 if it does not wait, or its wait is over.
+    pub fn wait_left(&self, now: u64) -> u64
+        ensures { (h : List Event) → StandsFor self.now h
+            → result ≡ wait_left (stands_at self.now h) now }
+    {
+        match self.standing {
+            Standing::Vacant => 0,
+            Standing::Taken => 0,
+            Standing::Waiting { until } => until.saturating_sub(now),
         }
     }
 

@@ -1,7 +1,7 @@
 // The suspects of one peer: articles at which connections to it failed.
 ghost use Rattle.std.specs.Prelude.{◌≡◌, ◌≤◌, ◌&&◌, [], length, map, IfOk, OnOk, Some};
-ghost use Rattle.feeder.specs.Suspects.{has_key, has_pending, is_of, is_pending, met, then_latest};
-ghost use Rattle.feeder.specs.Suspects.{with_latest, without, without_article, without_pending};
+ghost use Rattle.feeder.specs.Suspects.{first_place, has_key, is_at, is_of, met, place, place_for, place_of};
+ghost use Rattle.feeder.specs.Suspects.{then_latest, with_latest, without, without_article, without_place};
 
 use funnel::{MsgId, Token, read_backlog_line};
 use ledger_core::{Debt, Key};
@@ -14,8 +14,29 @@ const SUSPECTS_MAX: usize = 4_096;
 pub(crate) struct Suspect {
     pub token: Token,
     pub id: MsgId,
-    /// The key of its debt in this run. `None`: it is a suspect of an earlier run that was not offered in this one.
-    pub key: Option<Key>,
+    pub state: SuspectState,
+}
+
+/// What became of a suspect in this run.
+#[derive(Clone, Copy)]
+pub(crate) enum SuspectState {
+    /// It is of an earlier run, and was not offered in this one. In the last stage the one with the least place comes
+    /// first.
+    Pending { place: u64 },
+    /// It was offered in this run, or does not wait for the last stage. Its debt has this key.
+    Met { key: Key },
+}
+
+impl SuspectState {
+    // The place of one that is pending.
+    fn place(&self) -> Option<u64>
+        ensures { result ≡ place_of self.now }
+    {
+        match *self {
+            SuspectState::Pending { place } => Some(place),
+            SuspectState::Met { .. } => None,
+        }
+    }
 }
 
 impl Suspect {
@@ -25,12 +46,12 @@ impl Suspect {
     /// Memory was refused.
     pub fn of_debt(debt: &Debt) -> Result<Suspect, AllocError>
         ensures { IfOk result (λ suspect. (suspect.token ≡ debt.now.1.0)
-            × (suspect.id ≡ debt.now.1.1) × (suspect.key ≡ Some debt.now.0)) }
+            × (suspect.id ≡ debt.now.1.1) × (suspect.state ≡ SuspectState.Met debt.now.0)) }
     {
         Ok(Suspect {
             token: debt.token().clone()?,
             id: debt.id().clone()?,
-            key: Some(debt.key()),
+            state: SuspectState::Met { key: debt.key() },
         })
     }
 
@@ -41,20 +62,34 @@ impl Suspect {
         self.token.bytes() == token.bytes() && self.id.bytes() == id.bytes()
     }
 
-    // Whether it is this article, and was not offered in this run.
-    fn is_pending_of(&self, token: &Token, id: &MsgId) -> bool
-        ensures { result ≡ (is_pending self.now && is_of token.now id.now self.now) }
+    // Its place, if it is this article and pending.
+    fn place_for(&self, token: &Token, id: &MsgId) -> Option<u64>
+        ensures { result ≡ place_for token.now id.now self.now }
     {
-        self.key.is_none() && self.is_of(token, id)
+        if self.is_of(token, id) {
+            self.state.place()
+        } else {
+            None
+        }
+    }
+
+    // Whether it is pending, and its place is this.
+    fn is_at(&self, place: u64) -> bool
+        ensures { result ≡ is_at place self.now.state }
+    {
+        match self.state {
+            SuspectState::Pending { place: own } => own == place,
+            SuspectState::Met { .. } => false,
+        }
     }
 
     // Whether its debt of this run has this key.
     fn has_key(&self, key: Key) -> bool
-        ensures { result ≡ has_key key self.now.key }
+        ensures { result ≡ has_key key self.now.state }
     {
-        match self.key {
-            Some(own) => own == key,
-            None => false,
+        match self.state {
+            SuspectState::Pending { .. } => false,
+            SuspectState::Met { key: own } => own == key,
         }
     }
 
@@ -62,8 +97,8 @@ impl Suspect {
     fn meet(&mut self, key: Key, token: &Token, id: &MsgId)
         ensures { self.new ≡ met key token.now id.now self.old }
     {
-        if self.is_pending_of(token, id) {
-            self.key = Some(key);
+        if self.place_for(token, id).is_some() {
+            self.state = SuspectState::Met { key };
         }
     }
 }
@@ -87,18 +122,30 @@ impl SuspectList {
         self.suspects.is_empty()
     }
 
-    /// Whether one of them is of an earlier run, and was not offered in this one.
-    pub fn has_any_pending(&self) -> bool {
-        self.suspects.iter().any(|suspect| suspect.key.is_none())
+    /// The place of the first that is of an earlier run and was not offered in this one.
+    pub fn first_place(&self) -> Option<u64>
+        ensures { result ≡ first_place self.now.suspects.items }
+    {
+        for suspect in &self.suspects {
+            let place = suspect.state.place();
+            if place.is_some() {
+                return place;
+            }
+        }
+        None
     }
 
-    /// Whether this article is one of an earlier run, and was not offered in this one.
-    pub fn has_pending(&self, token: &Token, id: &MsgId) -> bool
-        ensures { result ≡ has_pending token.now id.now self.now.suspects.items }
+    /// The place of this article, if it is one of an earlier run and was not offered in this one.
+    pub fn place(&self, token: &Token, id: &MsgId) -> Option<u64>
+        ensures { result ≡ place token.now id.now self.now.suspects.items }
     {
-        self.suspects
-            .iter()
-            .any(|suspect| suspect.is_pending_of(token, id))
+        for suspect in &self.suspects {
+            let place = suspect.place_for(token, id);
+            if place.is_some() {
+                return place;
+            }
+        }
+        None
     }
 
     /// This article is offered in this run, or no longer waits for the last stage: its debt has this key.
@@ -118,11 +165,11 @@ impl SuspectList {
         self.suspects.retain(|suspect| !suspect.has_key(key));
     }
 
-    /// No debt that waits is a suspect of an earlier run: those that were not offered have ended.
-    pub fn end_pending(&mut self)
-        ensures { self.new.suspects.items ≡ without_pending self.old.suspects.items }
+    /// No debt that waits is the pending suspect with this place: its debt has ended. All others stay.
+    pub fn end_pending(&mut self, place: u64)
+        ensures { self.new.suspects.items ≡ without_place place self.old.suspects.items }
     {
-        self.suspects.retain(|suspect| suspect.key.is_some());
+        self.suspects.retain(|suspect| !suspect.is_at(place));
     }
 
     /// A connection failed at this article. It is the latest suspect, whether or not it was one before.
@@ -159,23 +206,27 @@ impl SuspectList {
         Ok(())
     }
 
-    /// Adds the suspects of an earlier run, which are the lines of this text; the last 4,096 of them are kept. Returns
-    /// how many lines are malformed, which are passed over.
+    /// Adds the suspects of an earlier run, which are the lines of this text, each with the place of its line; the last
+    /// 4,096 of them are kept. Returns how many lines are malformed, which are passed over.
     ///
     /// # Errors
     /// Memory was refused.
     pub fn read(&mut self, alloc: Global, text: &[u8]) -> Result<u64, AllocError> {
         let mut malformed = 0u64;
+        let mut place = 0u64;
         for line in text.split(|octet| *octet == b'\n') {
             if line.is_empty() {
                 continue;
             }
             match read_backlog_line(alloc, line) {
-                Ok((token, id)) => self.push(Suspect {
-                    token,
-                    id,
-                    key: None,
-                })?,
+                Ok((token, id)) => {
+                    self.push(Suspect {
+                        token,
+                        id,
+                        state: SuspectState::Pending { place },
+                    })?;
+                    place = place.saturating_add(1);
+                }
                 Err(_) => malformed = malformed.saturating_add(1),
             }
         }

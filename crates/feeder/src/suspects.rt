@@ -44,7 +44,7 @@ impl Suspects {
         self.peers.push(PeerSuspects {
             name,
             has_any: AtomicBool::new(!list.is_empty()),
-            has_pending: AtomicBool::new(list.has_any_pending()),
+            has_pending: AtomicBool::new(list.first_place().is_some()),
             list: Mutex::new(list),
         })?;
         Ok(malformed)
@@ -82,14 +82,18 @@ impl Suspects {
         }
     }
 
-    /// Whether this debt's article is such a suspect.
-    pub(crate) fn is_pending<R: Wait>(&self, rt: &R, peer: usize, debt: &Debt) -> bool {
-        match self.peers.get(peer) {
-            Some(shared) if shared.has_pending.load(Ordering::SeqCst) => {
-                shared.list.lock(rt).has_pending(debt.token(), debt.id())
-            }
-            _ => false,
+    /// The place of the first such suspect.
+    pub(crate) fn first_place<R: Wait>(&self, rt: &R, peer: usize) -> Option<u64> {
+        self.peers.get(peer)?.list.lock(rt).first_place()
+    }
+
+    /// The place of this debt's article, if it is such a suspect.
+    pub(crate) fn place<R: Wait>(&self, rt: &R, peer: usize, debt: &Debt) -> Option<u64> {
+        let shared = self.peers.get(peer)?;
+        if !shared.has_pending.load(Ordering::SeqCst) {
+            return None;
         }
+        shared.list.lock(rt).place(debt.token(), debt.id())
     }
 
     /// This debt is offered, or waits no longer than others.
@@ -123,11 +127,11 @@ impl Suspects {
         }
     }
 
-    /// No debt that waits is a suspect of an earlier run of this peer.
-    pub(crate) fn end_pending<R: Wait>(&self, rt: &R, peer: usize) {
+    /// The debt of such a suspect, with this place, has ended.
+    pub(crate) fn end_pending<R: Wait>(&self, rt: &R, peer: usize, place: u64) {
         if let Some(shared) = self.peers.get(peer) {
             let mut list = shared.list.lock(rt);
-            list.end_pending();
+            list.end_pending(place);
             shared.note(&list);
         }
     }
@@ -138,6 +142,6 @@ impl PeerSuspects {
     fn note(&self, list: &SuspectList) {
         self.has_any.store(!list.is_empty(), Ordering::SeqCst);
         self.has_pending
-            .store(list.has_any_pending(), Ordering::SeqCst);
+            .store(list.first_place().is_some(), Ordering::SeqCst);
     }
 }

@@ -22,15 +22,15 @@ impl UnreadPaths {
         self.paths
     }
 
-    /// Adds the file of a token below this directory, or the directory itself. If memory is refused, nothing is added.
-    pub(crate) fn add(&mut self, alloc: Global, directory: &str, token: Option<&Token>) {
+    /// Adds the file of a token below this directory, or the directory itself. Returns whether it was added: not if it
+    /// was among them, there are 4,096, or memory is refused.
+    pub(crate) fn add(&mut self, alloc: Global, directory: &str, token: Option<&Token>) -> bool {
         if self.paths.len() >= PATHS_MAX {
-            return;
+            return false;
         }
-        if let Ok(path) = path_of(alloc, directory, token)
-            && !self.paths.contains(&path)
-        {
-            let _ = self.paths.push(path);
+        match path_of(alloc, directory, token) {
+            Ok(path) if !self.paths.contains(&path) => self.paths.push(path).is_ok(),
+            _ => false,
         }
     }
 }

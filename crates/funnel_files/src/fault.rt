@@ -1,16 +1,45 @@
 // Why a funnel cannot be read.
 use crate::position::Misfit;
 use std::alloc::AllocError;
+use std::fmt::{self, Display, Formatter, Write};
 use std::io::{self, ErrorKind};
 use thiserror::Error;
 
+/// A file that has fewer lines than are acknowledged. The text is for a log, after the file's path and a space.
+#[derive(Clone, Copy, Debug, PartialEq, Eq)]
+pub struct FewLines {
+    /// How many it has.
+    pub lines: u64,
+    /// All lines up to this number are acknowledged.
+    pub mark: u64,
+}
+
+impl Display for FewLines {
+    fn fmt<W: Write>(&self, f: &mut Formatter<W>) -> fmt::Result {
+        let noun = if self.lines == 1 { "line" } else { "lines" };
+        let verb = if self.mark == 1 { "was" } else { "were" };
+        write!(
+            f,
+            "has {} {}, {} {} acknowledged: another funnel, or a cut one?",
+            self.lines, noun, self.mark, verb
+        )
+    }
+}
+
 /// Why a funnel cannot be read further, or one of its segments cannot be removed. The text is for a log, after the
-/// funnel's path. `segment` is the number of a segment's first line, which names the segment.
+/// funnel's path and a colon, but for `FewLines`. `segment` is the number of a segment's first line, which names the
+/// segment.
 #[derive(Debug, Drop, Error)]
 pub enum FunnelFault {
     /// The funnel is not a directory, so segments cannot be removed from it.
     #[error("it is not a directory, so no segments can be removed from it")]
     NotADirectory,
+    /// The funnel is a file with fewer lines than are acknowledged.
+    #[error("{0}")]
+    FewLines(FewLines),
+    /// The funnel is a file that is followed, and has become shorter than what was read of it.
+    #[error("it has become shorter")]
+    Shortened,
     /// The directory has no segment.
     #[error("there is no segment")]
     NoSegment,

@@ -6,6 +6,7 @@
 //! (`Position`) and when some may have become removable (`specs/Due.antt`); what the system's files give is tested.
 #![tactic(auto)]
 
+mod end_pace;
 mod fault;
 mod held_names;
 mod line_file;
@@ -19,7 +20,7 @@ mod segmented;
 mod tidying;
 mod watch;
 
-pub use fault::FunnelFault;
+pub use fault::{FewLines, FunnelFault};
 pub use line_file::LineFile;
 pub use lines::{Funnel, Next};
 pub use position::Misfit;

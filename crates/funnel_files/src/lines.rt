@@ -38,9 +38,9 @@ impl<'a, F: AllocGlobal + Files<File = File>> Funnel<'a, F> {
     /// If it is followed, more may be added at its end. If it is tidied, [`Funnel::tidy`] removes segments.
     ///
     /// # Errors
-    /// `NotADirectory` if it is to be tidied and is not a directory; `Failed` with `UnexpectedEof` if a file has
-    /// fewer lines; for a directory, `NoSegment` if it has none and is not followed, and the errors of
-    /// [`Funnel::next`]; the system's error.
+    /// `NotADirectory` if it is to be tidied and is not a directory; `FewLines` if a file has fewer lines; for a
+    /// directory, `NoSegment` if it has none and is not followed, and the errors of [`Funnel::next`]; the system's
+    /// error.
     pub fn open<C: Net>(
         files: &'a F,
         net: &C,
@@ -77,11 +77,11 @@ impl<'a, F: AllocGlobal + Files<File = File>> Funnel<'a, F> {
     /// What comes next. Nothing more may be read after an error.
     ///
     /// # Errors
-    /// `Failed` with `UnexpectedEof` if a file that is followed has become shorter than what was read of it; for a
-    /// directory `NoNumber`, `NoFile`, `Short`, `Shrunk`, `Misfit` and `Segment`; the system's error.
+    /// `Shortened` if a file that is followed has become shorter than what was read of it; for a directory `NoNumber`,
+    /// `NoFile`, `Short`, `Shrunk`, `Misfit` and `Segment`; the system's error.
     pub fn next<R: Clock>(&mut self, rt: &R) -> Result<Next, FunnelFault> {
         match &mut self.lines {
-            Lines::File(file) => Ok(file.next(rt)?),
+            Lines::File(file) => file.next(rt),
             Lines::Directory(segments) => segments.next(rt),
         }
     }

@@ -1,9 +1,15 @@
 // A funnel that is one file, a pipe or the like: its lines as they come.
+ghost use Rattle.std.specs.Prelude.{◌≡◌, ◌-◌, ℕ};
+ghost use Rattle.std.specs.declared.io.Error.{Error};
+ghost use Rattle.funnel_files.specs.declared.fault.FunnelFault.TheVariants.{FewLines as Few, Failed};
+ghost use Rattle.funnel_files.specs.declared.line_file.SkipFault.TheVariants.{Short, Failed as SkipFailed};
+
+use crate::fault::{FewLines, FunnelFault};
 use crate::line_file::{LineFile, SkipFault};
 use crate::lines::Next;
 use crate::watch::Watch;
 use std::fs::File;
-use std::io::{self, ErrorKind};
+use std::io;
 use std::net::Net;
 use std::rt::{Clock, Files};
 use std::time::{Duration, Instant};
@@ -28,14 +34,14 @@ impl PlainFunnel {
     /// be silent is read here only if lines have to be skipped.
     ///
     /// # Errors
-    /// The system's error; `UnexpectedEof` if there are fewer lines.
+    /// `FewLines` if there are fewer lines; the system's error.
     pub fn open<F: AllocGlobal + Files<File = File>, C: Net>(
         files: &F,
         net: &C,
         path: &str,
         lines: u64,
         is_followed: bool,
-    ) -> io::Result<Self> {
+    ) -> Result<Self, FunnelFault> {
         let alloc = files.alloc();
         let file = File::open(files, path)?;
         let watch = Watch::new(alloc, net, &file)?;
@@ -46,7 +52,9 @@ impl PlainFunnel {
             is_followed,
         };
         if funnel.watch.is_none() || lines > 0 {
-            funnel.lines.skip(lines).map_err(reason_of)?;
+            if let Err(fault) = funnel.lines.skip(lines) {
+                return Err(fault_of(fault, lines));
+            }
         }
         Ok(funnel)
     }
@@ -54,8 +62,8 @@ impl PlainFunnel {
     /// What comes next; the clock is read only if it has to be waited for.
     ///
     /// # Errors
-    /// The system's error; `UnexpectedEof` if a file that is followed has become shorter than what was read of it.
-    pub fn next<R: Clock>(&mut self, rt: &R) -> io::Result<Next> {
+    /// `Shortened` if a file that is followed has become shorter than what was read of it; the system's error.
+    pub fn next<R: Clock>(&mut self, rt: &R) -> Result<Next, FunnelFault> {
         for _ in 0..u64::MAX {
             if let Some(line) = self.lines.next_read() {
                 return Ok(Next::Line(line));
@@ -87,21 +95,29 @@ impl PlainFunnel {
     }
 
     // What its end means: more can be added only to a plain file.
-    fn end(&self) -> io::Result<Next> {
+    fn end(&self) -> Result<Next, FunnelFault> {
         if !self.is_followed || self.watch.is_some() {
             return Ok(Next::End);
         }
         let (file, read) = self.lines.reader();
         if file.metadata()?.len() < read {
-            return Err(io::Error::from(ErrorKind::UnexpectedEof));
+            return Err(FunnelFault::Shortened);
         }
         Ok(Next::Pause)
     }
 }
 
-fn reason_of(fault: SkipFault) -> io::Error {
+// Why the lines up to this mark could not be passed over.
+fn fault_of(fault: SkipFault, mark: u64) -> FunnelFault
+    ensures few { (missing : ℕ) → fault ≡ Short missing
+        → result ≡ Few (record { lines = mark - missing; mark = mark }) }
+    ensures failed { (reason : Error) → fault ≡ SkipFailed reason → result ≡ Failed reason }
+{
     match fault {
-        SkipFault::Short { .. } => io::Error::from(ErrorKind::UnexpectedEof),
-        SkipFault::Failed(reason) => reason,
+        SkipFault::Short { missing } => FunnelFault::FewLines(FewLines {
+            lines: mark.saturating_sub(missing),
+            mark,
+        }),
+        SkipFault::Failed(reason) => FunnelFault::Failed(reason),
     }
 }

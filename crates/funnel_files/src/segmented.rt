@@ -1,4 +1,5 @@
 // A funnel that is a directory of segments: its lines, segment by segment.
+use crate::end_pace::EndPace;
 use crate::fault::FunnelFault;
 use crate::held_names::HeldNames;
 use crate::lines::Next;
@@ -17,6 +18,7 @@ pub(crate) struct SegmentedFunnel<'a, F> {
     directory: SegmentDirectory<'a, F>,
     names: HeldNames,
     pace: ListingPace,
+    end_pace: EndPace,
     // `None` before there is a first segment.
     open: Option<OpenSegment>,
     // The segment that was opened first.
@@ -45,6 +47,7 @@ impl<'a, F: AllocGlobal + Files<File = File>> SegmentedFunnel<'a, F> {
             directory,
             names,
             pace: ListingPace::new(),
+            end_pace: EndPace::new(),
             open: None,
             begun: 0,
             mark,
@@ -73,7 +76,9 @@ impl<'a, F: AllocGlobal + Files<File = File>> SegmentedFunnel<'a, F> {
             if let Some(line) = open.next_read()? {
                 return Ok(Next::Line(line));
             }
-            if !open.read_piece()? && !self.pass_end(rt)? {
+            if open.read_piece()? {
+                self.end_pace.read_on();
+            } else if !self.pass_end(rt)? {
                 return Ok(if self.is_followed {
                     Next::Pause
                 } else {
@@ -117,6 +122,9 @@ impl<'a, F: AllocGlobal + Files<File = File>> SegmentedFunnel<'a, F> {
             return Ok(false);
         };
         let known = open.next_segment()?;
+        if known.is_none() && self.is_followed && !self.end_pace.is_due(rt) {
+            return Ok(false);
+        }
         if known.is_none() && self.find_awaited()? {
             return Ok(true);
         }

@@ -9,7 +9,7 @@
 mod files;
 mod streams;
 
-use cli::{Exit, Order, run};
+use cli::{Exit, Order, VERSION, run};
 use cli_args::read_args;
 use feed_ends::Feeds;
 use feed_run::SystemFeeds;
@@ -33,7 +33,7 @@ fn main(rt: HostRuntime) -> ExitCode {
     };
     // A feed begins it. From then on all lines on standard error go through it, the last ones too.
     let log = RunLog::new();
-    let mut feeds = SystemFeeds::new(&rt, &rt, rt, &log);
+    let mut feeds = SystemFeeds::new(&rt, &rt, rt, &log, VERSION);
     let mut err = LastLines::new(&rt, rt.stderr(), &log);
     // Besides the order, the only failure is that memory is refused.
     let exit = obey_args(&rt, &mut feeds, &mut err).unwrap_or(Exit::NoMemory);

@@ -2,5 +2,6 @@ pub mod Errors
 pub mod Nowhere
 pub mod OpenFiles
 pub mod Ordered
+pub mod Pauses
 pub mod Sources
 pub mod Tapes

@@ -4,6 +4,7 @@ ghost use Rattle.intake.specs.Ordered.{lasts_of};
 
 use crate::countdown::Countdown;
 use crate::keeping::LineKeeper;
+use crate::look_pace::LookPace;
 use crate::nowhere::Nowhere;
 use crate::ordered::OrderedBatches;
 use crate::progress::Progress;
@@ -11,6 +12,8 @@ use crate::run_error::{RunError, is_lost_tape};
 use crate::spare_room::KeptRoom;
 use crate::status_file::StatusFile;
 use crate::stop_file::StopFile;
+use crate::unknown_lines::UNKNOWN;
+use crate::unprinted::Unprinted;
 use disk_model::{Disk, TapeDirectory};
 use feed_ends::{FeedEnd, FileError};
 use flusher::{IntakeShare, Naming, Pace, Post, PostFault, Receipt, Signals, Work};
@@ -31,17 +34,8 @@ use std::time::{Duration, Instant};
 
 const BATCH_MAX_LINES: u64 = 256;
 
-// The file of lines that name unknown peers, in the backlog directory.
-const UNKNOWN: &str = "~unknown";
-
 // How many batches may be not acknowledged yet while the next one is taken.
 const AHEAD_MAX_BATCHES: usize = 64;
-
-// The pause before more lines are looked for at the end of a funnel that is followed.
-const PAUSE_MS: u64 = 200;
-
-// The same while batches are not acknowledged, so that these are reported soon.
-const FLUSH_PAUSE_MS: u64 = 20;
 
 // How often lines that go nowhere are logged.
 const NOWHERE_PERIOD_SECONDS: u64 = 60;
@@ -65,7 +59,8 @@ struct Batch {
 }
 
 /// Takes the funnel's lines, batch by batch, while earlier batches are flushed, and prints `taken N` once a batch is
-/// acknowledged; then waits for the feeders. Meanwhile it writes the status file and logs lines that go nowhere.
+/// acknowledged, or in a run that follows its funnel once a second at most; then waits for the feeders. Meanwhile it
+/// writes the status file and logs lines that go nowhere.
 #[derive(Drop)]
 pub struct IntakeWorker<'a, F, W, N: Naming> {
     pub alloc: Global,
@@ -87,6 +82,10 @@ pub struct IntakeWorker<'a, F, W, N: Naming> {
     pub room: Option<KeptRoom<'a, F>>,
     /// All lines up to this number are acknowledged: by the intake's tape as it was opened, or by a receipt.
     pub acknowledged: u64,
+    /// What of that is not printed yet.
+    pub unprinted: Option<Unprinted>,
+    /// When it was printed last, in a run that follows its funnel.
+    pub printed: Option<Instant>,
     /// When the lines that go nowhere were logged last.
     pub nowhere_logged: Instant,
     pub countdown: &'a Countdown,
@@ -108,18 +107,19 @@ impl<F: AllocGlobal + Files<File = File>, W: Write, N: Naming> IntakeWorker<'_, 
         funnel: &mut Funnel<'_, F>,
     ) -> Result<(), RunError> {
         let mut ordered = OrderedBatches::new(self.alloc);
+        let mut pace = LookPace::new();
         for _ in rt.forever() {
-            let pause = if ordered.len() > 0 {
-                FLUSH_PAUSE_MS
-            } else {
-                PAUSE_MS
-            };
+            let pause = pace.pause_ms(rt, ordered.len() > 0 || self.unprinted.is_some());
             let batch = self.take_batch(rt, post, signals, funnel, pause)?;
+            if batch.count > 0 {
+                pace.lines_came(rt);
+            }
             self.order(signals, &batch, &mut ordered)?;
             let most = if batch.is_last { 0 } else { AHEAD_MAX_BATCHES };
             if !self.acknowledge(rt, signals, &mut ordered, most)? {
                 return Ok(());
             }
+            self.print_due(rt)?;
             if let Err(error) = self.tidy(rt, funnel) {
                 self.acknowledge(rt, signals, &mut ordered, 0)?;
                 return Err(error);
@@ -395,9 +395,9 @@ impl<F: AllocGlobal + Files<File = File>, W: Write, N: Naming> IntakeWorker<'_, 
         ordered.push(signals.order(), batch.last)
     }
 
-    // Prints `taken N` for each batch that is acknowledged, oldest first, and waits until at most `most` are not. False
-    // if all threads are stopped or a tape fails before that.
-    fn acknowledge<R: Wait>(
+    // Prints `taken N` for each batch that is acknowledged, oldest first, if it is due, and waits until at most `most`
+    // are not. False if all threads are stopped or a tape fails before that.
+    fn acknowledge<R: Wait + Clock>(
         &mut self,
         rt: &R,
         signals: &Signals,
@@ -421,11 +421,7 @@ impl<F: AllocGlobal + Files<File = File>, W: Write, N: Naming> IntakeWorker<'_, 
                 return Ok(!waits);
             };
             match ordered.take_covered(receipt.number()) {
-                Some(last) => {
-                    if let Err(error) = self.print_taken(last, &receipt) {
-                        return Err(RunError::output(self.alloc, &error));
-                    }
-                }
+                Some(last) => self.report(rt, Unprinted { last, receipt })?,
                 // This flush began before the batch's last line was taken.
                 None if waits => ordered.order_again(signals.order()),
                 None => return Ok(true),
@@ -434,13 +430,51 @@ impl<F: AllocGlobal + Files<File = File>, W: Write, N: Naming> IntakeWorker<'_, 
         unreachable!()
     }
 
+    // Lines are acknowledged: prints that, if it is due.
+    fn report<R: Clock>(&mut self, rt: &R, unprinted: Unprinted) -> Result<(), RunError> {
+        self.acknowledged = unprinted.last;
+        self.unprinted = Some(unprinted);
+        self.print_due(rt)
+    }
+
+    // Prints what is acknowledged and not printed yet, unless the run follows its funnel and has printed something less
+    // than a second ago.
+    fn print_due<R: Clock>(&mut self, rt: &R) -> Result<(), RunError> {
+        if self.unprinted.is_none() || self.is_paced(rt) {
+            return Ok(());
+        }
+        self.print_rest(rt)
+    }
+
+    // Whether the run follows its funnel and has printed something less than a second ago.
+    fn is_paced<R: Clock>(&self, rt: &R) -> bool {
+        match self.printed {
+            Some(printed) if self.stop.is_some() => match printed.elapsed(rt) {
+                Ok(passed) => passed.as_secs() < 1,
+                Err(_) => false,
+            },
+            _ => false,
+        }
+    }
+
+    // Prints what is acknowledged and not printed yet.
+    fn print_rest<R: Clock>(&mut self, rt: &R) -> Result<(), RunError> {
+        let Some(Unprinted { last, receipt }) = self.unprinted.take() else {
+            return Ok(());
+        };
+        self.printed = Instant::now(rt).ok();
+        match self.print_taken(last, &receipt) {
+            Ok(()) => Ok(()),
+            Err(error) => Err(RunError::output(self.alloc, &error)),
+        }
+    }
+
     // Prints `taken N`, and flushes the output: the receipt acknowledges all lines up to this one. The `requires` keeps
     // this from being printed without one.
     fn print_taken(&mut self, last: u64, receipt: &Receipt) -> io::Result<()>
         requires { last ≤ receipt.now.number }
     {
         let _ = receipt;
-        self.acknowledged = last;
         self.out.write_all(b"taken ")?;
         self.out
             .write_all(itoa::Buffer::new().format(last).as_bytes())?;
@@ -499,6 +533,15 @@ impl<F: AllocGlobal + Files<File = File>, W: Write, N: Naming> IntakeWorker<'_, 
         }
     }
 
+    // Taking the funnel's lines ended with this error, which is reported at the end. If memory or another resource was
+    // refused, all threads are stopped.
+    fn add_error(&mut self, signals: &Signals, error: RunError) {
+        if !matches!(error, RunError::File(_)) {
+            signals.stop();
+        }
+        error.add_to(&mut self.end);
+    }
+
     // Takes all lines of the funnel, if there is one, and signals the feeders that no more will come. If memory or
     // another resource is refused, all threads are stopped.
     fn take_all<D: Disk, R: Wait + Clock + Log>(
@@ -508,13 +551,13 @@ impl<F: AllocGlobal + Files<File = File>, W: Write, N: Naming> IntakeWorker<'_, 
         signals: &Signals,
         funnel: &mut Option<Funnel<'_, F>>,
     ) {
-        if let Some(funnel) = funnel
-            && let Err(error) = self.take_funnel(rt, post, signals, funnel)
-        {
-            if !matches!(error, RunError::File(_)) {
-                signals.stop();
+        if let Some(funnel) = funnel {
+            if let Err(error) = self.take_funnel(rt, post, signals, funnel) {
+                self.add_error(signals, error);
             }
-            error.add_to(&mut self.end);
+            if let Err(error) = self.print_rest(rt) {
+                self.add_error(signals, error);
+            }
         }
         if self.is_to_end(rt) {
             signals.begin_draining();

@@ -1,5 +1,5 @@
 // The progress of a run, for its log.
-ghost use Rattle.std.specs.Prelude.{◌≡◌, []};
+ghost use Rattle.std.specs.Prelude.{◌≡◌, [], if◌then◌else◌};
 
 use disk_model::Disk;
 use flusher::{Naming, Post};
@@ -13,19 +13,30 @@ use std::time::Instant;
 
 const PERIOD_SECONDS: u64 = 10;
 
+// The same for a run that follows its funnel.
+const FOLLOWED_PERIOD_SECONDS: u64 = 600;
+
 /// When the progress was logged last, and how many debts each peer had answered then.
 #[derive(Drop)]
 pub struct Progress {
+    // After how many seconds it is logged again.
+    period: u64,
     logged: Instant,
     answered: Vec<u64>,
 }
 
 impl Progress {
-    /// It counts as logged now.
-    pub fn new(alloc: Global, now: Instant) -> Self
-        ensures { (result.logged ≡ now) × (result.answered.items ≡ []) }
+    /// It counts as logged now. It is logged each 10 seconds, or, if the run follows its funnel, each 10 minutes.
+    pub fn new(alloc: Global, now: Instant, is_followed: bool) -> Self
+        ensures period { result.period ≡ (if is_followed then 600 else 10) }
+        ensures none { (result.logged ≡ now) × (result.answered.items ≡ []) }
     {
         Progress {
+            period: if is_followed {
+                FOLLOWED_PERIOD_SECONDS
+            } else {
+                PERIOD_SECONDS
+            },
             logged: now,
             answered: Vec::new(alloc),
         }
@@ -57,7 +68,7 @@ impl Progress {
         let Ok(passed) = self.logged.elapsed(rt) else {
             return;
         };
-        if passed.as_secs() < PERIOD_SECONDS {
+        if passed.as_secs() < self.period {
             return;
         }
         if let Ok(now) = Instant::now(rt) {

@@ -10,7 +10,7 @@ use flusher::PostFault;
 use funnel::PeerName;
 use funnel_files::FunnelFault;
 use ledger_core::LedgerFault;
-use log::{Log, info};
+use log::{Log, warn};
 use peer_queue::StationFault;
 use recovery::TapeFault;
 use std::alloc::{AllocError, AllocFailed, Global};
@@ -82,7 +82,7 @@ impl RunError {
     pub fn unread<R: Log>(rt: &R, alloc: Global, path: &[u8], error: &io::Error) -> Self
         ensures { IsUnread path.now error.now result }
     {
-        info!(rt; "cannot read {}: {}", text_of(path), error);
+        log_reason(rt, path, error);
         match error.kind() {
             ErrorKind::OutOfMemory => RunError::OutOfResources,
             _ => match Vec::from_slice(alloc, path) {
@@ -100,16 +100,15 @@ impl RunError {
             }
             fault => fault,
         };
-        info!(rt; "cannot read {}: {}", text_of(path), fault);
+        log_funnel_fault(rt, path, &fault);
         match (fault.is_no_memory(), Vec::from_slice(alloc, path)) {
             (true, _) | (_, Err(_)) => RunError::OutOfResources,
             (false, Ok(path)) => RunError::File(FileError::Unread(path)),
         }
     }
 
-    /// The file at this path could not be written. Logs the reason.
-    pub(crate) fn unwritten<R: Log>(rt: &R, alloc: Global, path: &[u8], error: &io::Error) -> Self {
-        info!(rt; "cannot write {}: {}", text_of(path), error);
+    /// The file at this path could not be written.
+    pub(crate) fn unwritten(alloc: Global, path: &[u8], error: &io::Error) -> Self {
         match (error.kind(), Vec::from_slice(alloc, path)) {
             (ErrorKind::OutOfMemory, _) | (_, Err(_)) => RunError::OutOfResources,
             (_, Ok(path)) => RunError::File(FileError::Unwritten(path)),
@@ -118,7 +117,7 @@ impl RunError {
 
     /// The file at this path could not be removed. Logs the reason.
     pub(crate) fn unremoved<R: Log>(rt: &R, alloc: Global, path: &[u8], error: &io::Error) -> Self {
-        info!(rt; "cannot remove {}: {}", text_of(path), error);
+        log_reason(rt, path, error);
         match (error.kind(), Vec::from_slice(alloc, path)) {
             (ErrorKind::OutOfMemory, _) | (_, Err(_)) => RunError::OutOfResources,
             (_, Ok(path)) => RunError::File(FileError::Unremoved(path)),
@@ -139,11 +138,13 @@ impl RunError {
         }
     }
 
-    /// The system refused what a run can't do without. Logs the reason.
+    /// The system refused what a run can't do without. Logs the reason, unless that is want of memory.
     pub fn refused<R: Log>(rt: &R, what: &str, reason: &io::Error) -> Self
         ensures { result ≡ OutOfResources }
     {
-        info!(rt; "cannot {}: {}", what, reason);
+        if reason.kind() != ErrorKind::OutOfMemory {
+            warn!(rt; "cannot {}: {}", what, reason);
+        }
         RunError::OutOfResources
     }
 
@@ -179,7 +180,7 @@ impl RunError {
     /// Logs why a tape's file could not be opened, if that is the error.
     pub fn log_unopened<R: Log>(&self, rt: &R) {
         if let RunError::Unopened { path, reason, .. } = self {
-            info!(rt; "cannot open {}: {}", text_of(path), reason);
+            log_reason(rt, path, reason);
         }
     }
 
@@ -208,6 +209,23 @@ fn add_tape(error: TapeError, end: &mut FeedEnd)
     if end.tapes.is_empty() {
         let added = end.tapes.push(error);
         end.lacks_resources |= added.is_err();
+    }
+}
+
+/// Logs why the system refused a call on the file at this path, unless that is want of memory. What is wrong with the
+/// file is reported at the end of the run.
+pub fn log_reason<R: Log>(rt: &R, path: &[u8], reason: &io::Error) {
+    if reason.kind() != ErrorKind::OutOfMemory {
+        warn!(rt; "{}: {}", text_of(path), reason);
+    }
+}
+
+// Logs why the funnel at this path cannot be read, unless that is want of memory.
+fn log_funnel_fault<R: Log>(rt: &R, path: &[u8], fault: &FunnelFault) {
+    match fault {
+        FunnelFault::FewLines(few) => warn!(rt; "{} {}", text_of(path), few),
+        fault if fault.is_no_memory() => {}
+        fault => warn!(rt; "{}: {}", text_of(path), fault),
     }
 }
 

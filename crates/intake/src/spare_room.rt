@@ -3,6 +3,7 @@ use disk_model::{SpareRoom, TapeDirectory};
 use log::{Log, warn};
 use std::alloc::AllocError;
 use std::fs::File;
+use std::io::{self, ErrorKind};
 use std::rt::{Clock, Files};
 use std::time::Instant;
 
@@ -78,9 +79,7 @@ impl<'a, F: AllocGlobal + Files<File = File>> KeptRoom<'a, F> {
             }
             Err(error) => {
                 if self.lacking.is_none() {
-                    warn!(
-                        rt; "{}/~room: {}: no line is taken until there are 4 MiB of room", self.directory, error
-                    );
+                    log_lack(rt, self.directory, &error);
                 }
                 self.lacking = Some(now);
             }
@@ -93,6 +92,18 @@ impl<'a, F: AllocGlobal + Files<File = File>> KeptRoom<'a, F> {
             rt; "{}: the file system is full: no line is taken until there are 4 MiB of room again", self.directory
         );
         self.lacking = Some(now);
+    }
+}
+
+// Logs that the room cannot be made in the directory at this path, and what is to be done.
+fn log_lack<R: Log>(rt: &R, directory: &str, error: &io::Error) {
+    if error.kind() == ErrorKind::FileTooLarge {
+        warn!(
+            rt; "{}/~room: {}: no line is taken until a file may have 4 MiB: raise its limit (LimitFSIZE, ulimit -f)",
+            directory, error
+        );
+    } else {
+        warn!(rt; "{}/~room: {}: no line is taken until there are 4 MiB of room", directory, error);
     }
 }
 

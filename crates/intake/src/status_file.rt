@@ -1,11 +1,11 @@
 // The status file.
-ghost use Rattle.std.specs.Prelude.{◌≡◌};
+ghost use Rattle.std.specs.Prelude.{◌≡◌, false};
 
-use crate::run_error::RunError;
+use crate::run_error::{RunError, log_reason};
 use disk_model::Disk;
 use flusher::{Naming, Post};
 use funnel::PeerName;
-use log::{Log, warn};
+use log::Log;
 use status::{PeerStatus, report};
 use std::alloc::{AllocError, Global};
 use std::fs::{self, File, OpenOptions};
@@ -23,21 +23,20 @@ pub struct StatusFile<'a, F> {
     files: &'a F,
     path: Vec<u8>,
     written: Instant,
-    // Whether it is logged at once that it cannot be written: the run may not end for long.
-    warns: bool,
+    // Whether it was logged why it cannot be written.
+    is_told: bool,
 }
 
 impl<'a, F: AllocGlobal + Files<File = File>> StatusFile<'a, F> {
-    /// The file at this path, which counts as written now. If it cannot be written, a run that `warns` logs that at
-    /// once, the first time.
-    pub fn new(files: &'a F, path: Vec<u8>, now: Instant, warns: bool) -> Self
-        ensures { (result.path ≡ path) × (result.written ≡ now) × (result.warns ≡ warns) }
+    /// The file at this path, which counts as written now.
+    pub fn new(files: &'a F, path: Vec<u8>, now: Instant) -> Self
+        ensures { (result.path ≡ path) × (result.written ≡ now) × (result.is_told ≡ false) }
     {
         StatusFile {
             files,
             path,
             written: now,
-            warns,
+            is_told: false,
         }
     }
 
@@ -54,7 +53,7 @@ impl<'a, F: AllocGlobal + Files<File = File>> StatusFile<'a, F> {
     /// whose tape has failed has the figures of its last flush that succeeded.
     ///
     /// # Errors
-    /// Memory was refused; it cannot be written.
+    /// Memory was refused; it cannot be written, for a reason that is logged the first time.
     pub(crate) fn write<D: Disk, N: Naming, R: Wait + Clock + Log>(
         &mut self,
         rt: &R,
@@ -69,12 +68,11 @@ impl<'a, F: AllocGlobal + Files<File = File>> StatusFile<'a, F> {
         match self.put(&text) {
             Ok(()) => Ok(()),
             Err(error) => {
-                if self.warns {
-                    self.warns = false;
-                    let path = str::from_utf8(&self.path).unwrap_or("");
-                    warn!(rt; "cannot write {}: {}", path, error);
+                if !self.is_told {
+                    self.is_told = true;
+                    log_reason(rt, &self.path, &error);
                 }
-                Err(RunError::unwritten(rt, alloc, &self.path, &error))
+                Err(RunError::unwritten(alloc, &self.path, &error))
             }
         }
     }

@@ -78,6 +78,13 @@ impl<'a, F: AllocGlobal + Files<File = File>> StopFile<'a, F> {
         self.has_come
     }
 
+    /// Whether it had come when it was looked for last.
+    pub fn was_seen(&self) -> bool
+        ensures { result ≡ self.now.has_come }
+    {
+        self.has_come
+    }
+
     /// Removes it, if it is there.
     ///
     /// # Errors

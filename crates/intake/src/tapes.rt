@@ -7,11 +7,13 @@ use crate::run_error::{INTAKE, RunError};
 use disk_model::{FileDisk, TapeDirectory, TapeFile};
 use feed_conf::PeerConf;
 use flusher::PostPeer;
+use log::{Log, warn};
 use peer_queue::Limits;
 use recovery::Tape;
 use std::alloc::{AllocError, Global};
 use std::fs::File;
 use std::rt::{Clock, Files};
+use std::str;
 use std::vec::IntoIter;
 
 /// A peer whose tape could not be opened.
@@ -46,8 +48,9 @@ struct OpenedPeers {
 /// `leaves_out` is whether a peer whose tape cannot be opened is left out.
 ///
 /// # Errors
-/// Why the first tape that could not be opened was refused, unless its peer is left out. Memory was refused.
-pub fn open_tapes<R: Clock, F: AllocGlobal + Files<File = File>>(
+/// Why the first tape that could not be opened was refused, unless its peer is left out. If the system refused a call
+/// on a file that is open, that is logged. Memory was refused.
+pub fn open_tapes<R: Clock + Log, F: AllocGlobal + Files<File = File>>(
     rt: &R,
     files: &F,
     path: &[u8],
@@ -70,14 +73,35 @@ pub fn open_tapes<R: Clock, F: AllocGlobal + Files<File = File>>(
         confs,
         peers,
         left_out,
-    } = open_peers(alloc, peers, &mut disks, leaves_out)?;
+    } = match open_peers(alloc, peers, &mut disks, leaves_out) {
+        Ok(opened) => opened,
+        Err(error) => return Err(refused(rt, &directory, path, error)),
+    };
+    let intake = match open_tape(alloc, INTAKE, next_files(&mut disks)) {
+        Ok(intake) => intake,
+        Err(error) => return Err(refused(rt, &directory, path, error)),
+    };
     Ok(Tapes {
         directory,
         confs,
         peers,
         left_out,
-        intake: open_tape(alloc, INTAKE, next_files(&mut disks))?,
+        intake,
     })
+}
+
+// A tape in the directory at this path was refused with this error. Logs the system's reason, if it has one.
+fn refused<R: Log>(rt: &R, directory: &TapeDirectory, path: &[u8], error: RunError) -> RunError {
+    log_tape_fault(rt, directory, str::from_utf8(path).unwrap_or(""));
+    error
+}
+
+/// Logs why the system refused a call on a file that is open in this directory, the first one only. `path` is the
+/// directory's.
+pub fn log_tape_fault<R: Log>(rt: &R, directory: &TapeDirectory, path: &str) {
+    if let Some(fault) = directory.first_fault() {
+        warn!(rt; "{}/{}: {}", path, fault.name, fault.reason);
+    }
 }
 
 fn open_peers(

@@ -1,9 +1,11 @@
+use Rattle.std.specs.Prelude.{not}
 use Rattle.std.proofs.Common.{rules}
 use Rattle.std.proofs.lemmas.Fn.{filter_same}
 use Rattle.feeder.specs.declared.suspect_list.Suspect.{Suspect}
-use Rattle.feeder.specs.Suspects.{has_some}
+use Rattle.feeder.specs.Suspects.{is_at}
 use Rattle.feeder.proofs.suspect_list.SuspectList.end_pending.Goals as goal
 
 pub returns : goal.returns
 returns c =
-    filter_same _ (λ (one : Suspect). has_some one.key) _ (λ x b f t. search rules) _ _ c.retain.ensures.filtered
+    filter_same _ (λ (one : Suspect). not (is_at c.args.place one.state)) _ (λ x b f t. search rules) _ _
+    c.retain.ensures.filtered

@@ -7,5 +7,5 @@ use Rattle.feeder.proofs.suspect_list.SuspectList.forget.Goals as goal
 
 pub returns : goal.returns
 returns c =
-    filter_same _ (λ (one : Suspect). not (has_key c.args.key one.key)) _ (λ x b f t. search rules) _ _
+    filter_same _ (λ (one : Suspect). not (has_key c.args.key one.state)) _ (λ x b f t. search rules) _ _
     c.retain.ensures.filtered
