@@ -1,8 +1,8 @@
 #!/usr/bin/env bash
 # segments.sh [MANY [RUNS]]: how fast the segments of a funnel are worked off that wait after an outage, each of one line
-# for a peer that is away: MANY of them (30,000), beside 1,000 (aim: 0.8 of that rate). The run tidies the directory. It
-# does not follow it, since it would then print `taken N` once a second at most: a rate goes from the start of the
-# program to its last `taken N`, and is the best of RUNS runs (3), by turns.
+# for a peer that is away: MANY of them (30,000), beside 1,000 (aim: 0.8 of that rate). The run follows and tidies the
+# directory. A rate goes from the start of the program to the removal of the last segment but one, and is the best of
+# RUNS runs (3), by turns.
 #
 # Most of the time goes into one sync and one removal a segment: other programs that use the disk move it. It fails on no
 # ratio.
@@ -26,7 +26,7 @@ END
 
 # worked_off COUNT: one run over so many segments; adds its segments a second to rates.COUNT.
 worked_off() {
-  local began word number
+  local began
   rm -rf funnel backlog
   mkdir funnel backlog
   awk -v count="$1" 'BEGIN {
@@ -38,9 +38,14 @@ worked_off() {
   }'
   sync -f funnel
   began=${EPOCHREALTIME/[.,]/}
-  "$top/crates/innfeed/out/innfeed" -c innfeed.conf --tidy funnel 2>log | while read -r word number; do
-    [ "$word $number" != "taken $1" ] || echo "${EPOCHREALTIME/[.,]/}" >ended
-  done || { cat log >&2; exit 1; }
+  "$top/crates/innfeed/out/innfeed" -c innfeed.conf --follow --tidy funnel >/dev/null 2>log &
+  while [ -e "$(printf 'funnel/%020d' $(($1 - 1)))" ]; do
+    kill -0 $! 2>/dev/null || { cat log >&2; exit 1; }
+    sleep 0.005
+  done
+  echo "${EPOCHREALTIME/[.,]/}" >ended
+  touch backlog/~stop
+  wait $! || { cat log >&2; exit 1; }
   echo $(($1 * 1000000 / ($(<ended) - began))) >>"rates.$1"
 }
 
