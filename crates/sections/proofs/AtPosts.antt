@@ -141,7 +141,7 @@ begun_sound past = record {
 -- ---- the intake
 
 -- the mark that a Seen leaves
-seen_mark : (number : ℕ) (tape : TapePast) → mark_at (seen number tape) ≡ number
+pub seen_mark : (number : ℕ) (tape : TapePast) → mark_at (seen number tape) ≡ number
 seen_mark number tape =
     ap (λ (s : State). s.mark) (after-append tape.history.base tape.history.notes (Seen number ∷ []))
 
@@ -169,13 +169,16 @@ sealed_keeps past sealing sound one all legal =
       intake = tape;
     }
 
--- the same notes
+-- the same notes leave the same mark
+pub same_mark : (was now : TapePast) → KeepsNotesOf was now → mark_at now ≡ mark_at was
+same_mark was now keeps =
+    ap (λ (base : State). (after base now.history.notes).mark) keeps.base
+    ∙ ap (λ notes. (after was.history.base notes).mark) keeps.notes
+
 intake_called : (past : PostPast) (tape : TapePast) → IsSound past → KeepsNotesOf past.intake tape
     → KeepsPost past (with_intake past tape)
 intake_called past tape sound keeps =
-    let mark : mark_at tape ≡ mark_at past.intake =
-    ap (λ (base : State). (after base tape.history.notes).mark) keeps.base
-    ∙ ap (λ notes. (after past.intake.history.base notes).mark) keeps.notes in
+    let mark = same_mark past.intake tape keeps in
     record {
       sound = record {
         stations = sound.stations;
@@ -190,6 +193,15 @@ intake_called past tape sound keeps =
       intake = keeps.keeps;
     }
 
+-- an opening finds no mark above the last
+pub opened_mark : (past : PostPast) (tape : TapePast) → IsSound past → IsReopened past.intake tape
+    → mark_at tape ≤ mark_at past.intake
+opened_mark past tape sound opens =
+    let state : ledger_at tape ≡ opens.state =
+    ap (λ (t : TapePast). ledger_at t) opens.all ∙ sym opens.prefix.is in
+    subst (λ (s : State). s.mark ≤ mark_at past.intake) (sym state)
+    (prefix_mark past.intake.history opens.state sound.legal opens.prefix)
+
 intake_opened : (past : PostPast) (tape : TapePast) → IsSound past → IsReopened past.intake tape
     → KeepsPost past (record {
       stations = past.stations;
@@ -199,11 +211,7 @@ intake_opened : (past : PostPast) (tape : TapePast) → IsSound past → IsReope
       sealings = [];
     })
 intake_opened past tape sound opens =
-    let state : ledger_at tape ≡ opens.state =
-    ap (λ (t : TapePast). ledger_at t) opens.all ∙ sym opens.prefix.is in
-    let less : mark_at tape ≤ mark_at past.intake =
-    subst (λ (s : State). s.mark ≤ mark_at past.intake) (sym state)
-    (prefix_mark past.intake.history opens.state sound.legal opens.prefix) in
+    let less = opened_mark past tape sound opens in
     let keeps = opened_keeps past.intake tape opens in
     record {
       sound = record {
@@ -235,9 +243,7 @@ stopped : (past : PostPast) (stations : List StationPast) (intake : TapePast) �
 stopped past stations intake sound stop stops =
     let keeps = stopped_keeps past.intake intake sound.within stops in
     let at_intake = (intake_called past intake sound keeps).sound in
-    let mark : mark_at intake ≡ mark_at past.intake =
-    ap (λ (base : State). (after base intake.history.notes).mark) keeps.base
-    ∙ ap (λ notes. (after past.intake.history.base notes).mark) keeps.notes in
+    let mark = same_mark past.intake intake keeps in
     record {
       sound = record {
         stations = zip_second IsStoppedStation IsSoundStation IsSoundStation

@@ -44,16 +44,16 @@ less_above : (last : ℕ) (was now gone : List Note) → was ≡ now ++ gone
 less_above last was now gone is mark place below all =
     drop_less (IsAbove mark) place now gone (subst (λ (l : List Note). AllAbove mark (drop place l)) is all)
 
-noted_all_of : (xs ys zs ws : List Note) → xs ++ (ys ++ (zs ++ ws)) ≡ (xs ++ (ys ++ zs)) ++ ws
+pub noted_all_of : (xs ys zs ws : List Note) → xs ++ (ys ++ (zs ++ ws)) ≡ (xs ++ (ys ++ zs)) ++ ws
 noted_all_of xs ys zs ws =
     ap (λ (l : List Note). xs ++ l) (sym (append_assoc ys zs ws)) ∙ sym (append_assoc xs (ys ++ zs) ws)
 
-sent_all_of : (xs ys zs rest : List Note) (note : Note) → zs ≡ note ∷ rest
+pub sent_all_of : (xs ys zs rest : List Note) (note : Note) → zs ≡ note ∷ rest
     → xs ++ ((ys ++ note ∷ []) ++ rest) ≡ xs ++ (ys ++ zs)
 sent_all_of xs ys zs rest note is =
     ap (λ (l : List Note). xs ++ l) (append_assoc ys (note ∷ []) rest ∙ ap (λ (l : List Note). ys ++ l) (sym is))
 
-pulled_all_of : (xs ys zs rest : List Note) (note : Note) → ys ≡ note ∷ rest
+pub pulled_all_of : (xs ys zs rest : List Note) (note : Note) → ys ≡ note ∷ rest
     → (xs ++ note ∷ []) ++ (rest ++ zs) ≡ xs ++ (ys ++ zs)
 pulled_all_of xs ys zs rest note is =
     append_assoc xs (note ∷ []) (rest ++ zs) ∙ ap (λ (l : List Note). xs ++ (l ++ zs)) (sym is)
@@ -74,7 +74,7 @@ called last was tape sound notes keeps = record {
       (ap (λ (l : List Note). l ++ (was.queue ++ was.unsent)) notes);
 }
 
-opened_notes : (was : StationPast) (tape : TapePast) → IsReopened was.tape tape
+pub opened_notes : (was : StationPast) (tape : TapePast) → IsReopened was.tape tape
     → (gone : List Note) × (notes_of was ≡ notes_of (opened tape) ++ gone)
 opened_notes was tape opens =
     let count = opens.prefix.count in
@@ -135,12 +135,17 @@ station_keeps last rank was now section sound (Is_opened r tape stopped opens) =
     }
 
 -- a stop: what is on no tape is gone
+pub stopped_notes : (was now : StationPast) → IsSoundStation was → IsStoppedStation was now
+    → notes_of now ≡ was.tape.history.notes
+stopped_notes was now sound stops =
+    ap (λ (s : StationPast). notes_of s) stops.all ∙ append-nil now.tape.history.notes
+    ∙ (stopped_keeps was.tape now.tape sound.within stops.tape).notes
+
 pub stopped_station : (last : ℕ) (was now : StationPast) → IsSoundStation was → IsStoppedStation was now
     → Keeps last was now
 stopped_station last was now sound stops =
     let keeps = stopped_keeps was.tape now.tape sound.within stops.tape in
-    let notes : notes_of now ≡ was.tape.history.notes =
-    ap (λ (s : StationPast). notes_of s) stops.all ∙ append-nil now.tape.history.notes ∙ keeps.notes in
+    let notes = stopped_notes was now sound stops in
     record {
       sound = record {
         within = keeps.keeps.within;

@@ -3,4 +3,5 @@ pub mod AtStations
 pub mod AtPosts
 pub mod OverRuns
 pub mod Lines
+pub mod FunnelLines
 pub mod Rows

@@ -14,7 +14,7 @@ use Rattle.sections.specs.Tapes.{IsAbove, IsRecovered, OwesOrEnded}
 use Rattle.sections.proofs.OverRuns.{recover_all}
 
 -- a note of a line whose number is not above a mark is acknowledged, if all that lines up to the mark made is
-below_kept : (mark index number : ℕ) (station : StationPast) (token id : List ℕ) → HasAcknowledged mark station
+pub below_kept : (mark index number : ℕ) (station : StationPast) (token id : List ℕ) → HasAcknowledged mark station
     → number ≤ mark → slice_get (notes_of station) index ≡ Some (Owe number token id)
     → index < station.tape.history.kept
 below_kept mark index number station token id has below noted = elim (cases_lt index station.tape.history.kept) [

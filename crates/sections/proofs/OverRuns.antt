@@ -35,7 +35,7 @@ safe_of post sound stations intake = record {
       intake;
 }
 
-intake_safe : (post : PostPast) → IsSafe post → IsSafeTape post.intake
+pub intake_safe : (post : PostPast) → IsSafe post → IsSafeTape post.intake
 intake_safe post safe = EachLedger-weaker (KeepsLines post) (IsPrefix post.intake.history)
     (λ state keeps. keeps.prefix) post.intake.log safe.intake
 

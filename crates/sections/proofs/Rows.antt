@@ -1,6 +1,7 @@
 -- Worked runs, computed: of a post of one station whose tapes are empty, none of whose sections writes to a disk; and a
 -- receipt that has counted a station.
-use Rattle.std.proofs.Common.{◌≡◌, ◌<◌, ℕ, zero, suc, true, false, None, Some, [], ◌∷◌, refl, subst, arith}
+use Rattle.std.proofs.Common.{◌≡◌, ◌+◌, ◌<◌, ℕ, zero, suc, true, false, None, Some, [], ◌∷◌, refl}
+use Rattle.std.proofs.Common.{sym, ap, subst, arith}
 use Rattle.std.specs.Prelude.{codes}
 use Rattle.std.specs.List.{slice_get}
 use Rattle.disk_model.specs.Disk.Event.{Made}
@@ -11,9 +12,11 @@ use Rattle.ledger_core.specs.declared.note.Note.TheVariants.{Owe}
 use Rattle.recovery.specs.Leaving.{IsPrefix}
 use Rattle.recovery.specs.Notes.{History, begun, noted}
 use Rattle.recovery.specs.Pairs.LeavesPair.{at_start}
+use Rattle.sections.specs.Funnel.{Feeds, Funnel, HasTaken, IsEmpty, IsFed, IsFedNote, Names}
+use Rattle.sections.specs.Funnel.Feeds.{Begin, Then}
 use Rattle.sections.specs.Laws.{AllAreRecovered, IsBegun}
 use Rattle.sections.specs.Post.{PostPast, SealingPast, StationPast, with_station}
-use Rattle.sections.specs.Sections.{IsReopened, IsStopped, Runs, begun_at, opened}
+use Rattle.sections.specs.Sections.{IsReopened, IsStopped, Runs, Section, begun_at, opened}
 use Rattle.sections.specs.Sections.Does.{At_station, Intake_is_opened, Is_begun, Is_counted, Is_due}
 use Rattle.sections.specs.Sections.Does.{Is_shown, Is_stopped, Was_sealed}
 use Rattle.sections.specs.Sections.OfStation.{Is_noted, Is_opened, Is_pulled, Is_sent}
@@ -225,3 +228,81 @@ line_stands : 0 < 1
 line_stands =
     sealed_stand counted counted_sound 0 0 0 1 (record { number = 5; counted = 1; due = None }) kept_station
     (codes "a/1") (codes "<x@y>") refl (omega arith) (omega arith) refl refl
+
+-- ---- the same line, of a funnel whose every line names the peer: it is taken, and again after a stop that loses it
+
+abbrev funnel : Funnel
+funnel = λ number. record { token = codes "a/1"; id = codes "<x@y>"; peers = 0 ∷ [] }
+
+made_empty : IsEmpty made
+made_empty = record { made = made_begun; stations = (refl, tt); intake = refl }
+
+-- a section that makes no note and shows no number goes by any funnel
+goes_by : (post : PostPast) (section : Section) → ((rank : ℕ) (note : Note) → section ≡ Notes rank note → ⊥)
+    → (section ≡ Shows → ⊥) → IsFed funnel post section
+goes_by post section notes shows = record {
+  notes = λ rank note is. absurd (notes rank note is);
+  shows = λ is. absurd (shows is);
+}
+
+line_fed : (post : PostPast) → post.intake_runs ≡ true → post.last ≡ 0 → IsFed funnel post (Notes 0 line)
+line_fed post runs none = record {
+  notes = λ rank note is.
+      let same : line ≡ note = cc in
+      subst (IsFedNote funnel post) same (λ is_line. (runs, ap (λ n. n + 1) (sym none), refl));
+  shows = λ is. absurd cc;
+}
+
+line_shown : IsFed funnel (with_station made 0 station_taken) Shows
+line_shown = record {
+  notes = λ rank note is. absurd cc;
+  shows = λ is. each;
+}
+  where
+    each : (rank : ℕ) (station : StationPast) → slice_get (station_taken ∷ []) rank ≡ Some station
+        → Names funnel 1 rank → HasTaken 1 station
+    each zero station here names =
+        let same : station_taken ≡ station = cc in
+        subst (HasTaken 1) same (record { runs = refl; taken = omega arith })
+    each (suc rank) station here names = absurd cc
+
+-- it may not be shown before the front has it
+not_shown : IsFed funnel made Shows → ⊥
+not_shown fed = omega (arith, (fed.shows refl 0 (opened tape) refl (omega arith, (0, omega arith, refl))).taken)
+
+-- the stop leaves both disks empty: neither the tape nor the intake has the line, which is read again
+abbrev shown : PostPast
+shown = record made { stations = station_taken ∷ []; last = 1 }
+
+abbrev lost : PostPast
+lost = record { stations = stopped_station ∷ []; intake = left_of tape; intake_runs = false; last = 1; sealings = [] }
+
+taken_feeds : Feeds funnel made (Notes 0 line ∷ Sends 0 ∷ Pulls 0 ∷ Shows ∷ []) shown
+taken_feeds =
+    Then (Notes 0 line ∷ Sends 0 ∷ Pulls 0 ∷ []) Shows (with_station made 0 station_taken) shown
+    (Then (Notes 0 line ∷ Sends 0 ∷ []) (Pulls 0) (with_station made 0 queued) _
+    (Then (Notes 0 line ∷ []) (Sends 0) (with_station made 0 front) _
+    (Then [] (Notes 0 line) made _ Begin (line_fed made refl refl)
+    (At_station (Notes 0 line) 0 (opened tape) front refl (Is_noted 0 line refl refl (omega arith))))
+    (goes_by _ (Sends 0) (λ rank note is. cc) (λ is. cc))
+    (At_station (Sends 0) 0 front queued refl (Is_sent 0 line [] refl)))
+    (goes_by _ (Pulls 0) (λ rank note is. cc) (λ is. cc))
+    (At_station (Pulls 0) 0 queued station_taken refl (Is_pulled 0 line [] refl refl)))
+    line_shown (Is_shown refl)
+
+again_feeds : Feeds funnel shown (Stops ∷ Opens 0 ∷ Opens_intake ∷ Notes 0 line ∷ [])
+    (with_station restarted 0 (record (opened (left_of tape)) { unsent = line ∷ [] }))
+again_feeds =
+    Then (Stops ∷ Opens 0 ∷ Opens_intake ∷ []) (Notes 0 line) restarted _
+    (Then (Stops ∷ Opens 0 ∷ []) Opens_intake (with_station lost 0 (opened (left_of tape))) restarted
+    (Then (Stops ∷ []) (Opens 0) lost _
+    (Then [] Stops shown lost Begin (goes_by shown Stops (λ rank note is. cc) (λ is. cc))
+    (Is_stopped (stopped_station ∷ []) (left_of tape)
+    (record { tape = stops (noted begun line); all = refl }, tt) (stops begun)))
+    (goes_by lost (Opens 0) (λ rank note is. cc) (λ is. cc))
+    (At_station (Opens 0) 0 stopped_station (opened (left_of tape)) refl
+    (Is_opened 0 (left_of tape) refl station_opens)))
+    (goes_by _ Opens_intake (λ rank note is. cc) (λ is. cc))
+    (Intake_is_opened (left_of tape) refl intake_opens))
+    (line_fed restarted refl refl)
+    (At_station (Notes 0 line) 0 (opened (left_of tape)) _ refl (Is_noted 0 line refl refl (omega arith)))

@@ -5,3 +5,4 @@ pub mod Post
 pub mod Sections
 pub mod Sound
 pub mod Laws
+pub mod Funnel

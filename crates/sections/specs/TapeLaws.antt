@@ -272,7 +272,7 @@ owed_on state (Closed source ∷ notes) number token id are has =
     (owed_on (step state (Closed source)) notes number token id (legal_behind state (Closed source) notes are) has)
 
 -- the same of a debt that one of the notes owes
-owed_by : (state : State) (notes : List Note) (index number : ℕ) (token id : List ℕ) → AreLegal state notes
+pub owed_by : (state : State) (notes : List Note) (index number : ℕ) (token id : List ℕ) → AreLegal state notes
     → slice_get notes index ≡ Some (Owe number token id) → OwesOrEnded notes number token id (after state notes)
 owed_by state [] index number token id are here = absurd cc
 owed_by state (note ∷ notes) zero number token id are here =

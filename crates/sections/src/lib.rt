@@ -8,6 +8,7 @@
 #![tactic(auto)]
 
 ghost use Rattle.std.specs.Prelude.{List};
+ghost use Rattle.sections.specs.Funnel.{FunnelIsOwed, FunnelIsOwedWithin, OverFunnels, ReceiptsAreOwed};
 ghost use Rattle.sections.specs.Laws.{AllAreRecovered, AllMomentsAreRecovered, AllStayAcknowledged};
 ghost use Rattle.sections.specs.Laws.{IsBegun, LinesAreAcknowledged, LinesAreKept, OverRuns};
 ghost use Rattle.sections.specs.Laws.{SealedLinesAreAcknowledged};
@@ -58,4 +59,15 @@ pub fn sealed_lines_stand()
 /// final answer to it or a drop of it: whatever a stop may leave of the station's tape is a tape that says so.
 pub fn acknowledged_lines_are_kept()
     ensures { OverRuns LinesAreKept }
+{}
+
+/// From a funnel's line on: let sections run over the lines of a funnel, in any order, from an empty spool on, with any
+/// stops and restarts among them. Whatever a stop leaves of all tapes at one moment, each line up to the mark of the
+/// intake's tape is owed at each peer that it names, unless what is left there has the peer's final answer to it or a
+/// drop of it (`stopped`); the same at each moment within the next section (`moments`). So is each line up to a
+/// receipt's number, once the receipt has counted every station (`receipts`).
+pub fn funnel_is_owed()
+    ensures stopped { OverFunnels FunnelIsOwed }
+    ensures receipts { OverFunnels ReceiptsAreOwed }
+    ensures moments { OverFunnels FunnelIsOwedWithin }
 {}
