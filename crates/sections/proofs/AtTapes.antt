@@ -45,26 +45,33 @@ over_weaker P Q weaker old new (inr (each, left)) = inr (EachLedger-weaker P Q w
 -- ---- the same notes, and as many of them acknowledged
 
 same_history : (was now : TapePast) → now.history ≡ was.history → IsWithin was
-    → (IsSafeTape was → LedgersLeave (IsPrefix was.history) was.log now.log) → KeepsNotesOf was now
-same_history was now same within moments = record {
+    → (IsSafeTape was → EachLedger (IsPrefix was.history) now.log)
+    → (IsSafeTape was → LeavesOver (IsPrefix was.history) was.log now.log) → KeepsNotesOf was now
+same_history was now same within left moments = record {
   base = ap (λ (h : History). h.base) same;
   notes = ap (λ (h : History). h.notes) same;
   keeps = record {
     kept = omega (arith, ap (λ (h : History). h.kept) same);
     within = subst (λ (h : History). h.kept ≤ length h.notes) (sym same) within;
     stays = tape_same was now same;
-    safe = λ safe. subst (λ (h : History). EachLedger (IsPrefix h) now.log) (sym same)
-        (pairs-now (HasLedger (IsPrefix was.history)) was.log now.log (moments safe));
-    moments = λ safe. inl (moments safe);
+    safe = λ safe. subst (λ (h : History). EachLedger (IsPrefix h) now.log) (sym same) (left safe);
+    moments = moments;
   };
 }
+
+-- what a stop leaves at each moment of a call is safe
+called_so : (was now : TapePast) → now.history ≡ was.history → IsWithin was
+    → (IsSafeTape was → LedgersLeave (IsPrefix was.history) was.log now.log) → KeepsNotesOf was now
+called_so was now same within moments =
+    same_history was now same within
+    (λ safe. pairs-now (HasLedger (IsPrefix was.history)) was.log now.log (moments safe)) (λ safe. inl (moments safe))
 
 history_of : (was now : TapePast) → was ≡ now → was.history ≡ now.history
 history_of was now same = ap (λ (t : TapePast). t.history) same
 
 -- nothing has happened to its disks
 pub same_tape : (tape : TapePast) → IsWithin tape → KeepsTape tape tape
-same_tape tape within = (same_history tape tape refl within (λ safe. at_start safe)).keeps
+same_tape tape within = (called_so tape tape refl within (λ safe. at_start safe)).keeps
 
 pub call_keeps : (was : TapePast) (runs : Bool) (call : Call) (now : TapePast) → IsWithin was → OfTape was runs call now
     → KeepsNotesOf was now
@@ -82,13 +89,13 @@ call_keeps was _ _ _ within (Is_put now put) =
       };
     }
 call_keeps was _ _ _ within (Is_cut now cut) =
-    same_history was now (history_of now _ cut.all) within (λ safe. cut.moments)
+    called_so was now (history_of now _ cut.all) within (λ safe. cut.moments)
 call_keeps was _ _ _ within (Is_read now read) =
-    same_history was now (history_of now _ read.all) within
+    called_so was now (history_of now _ read.all) within
     (λ safe. subst (λ (log : Log). LedgersLeave (IsPrefix was.history) was.log log)
     (sym (ap (λ (t : TapePast). t.log) read.all)) (at_start safe))
 call_keeps was _ _ _ within (Is_tried now tried) =
-    same_history was now (history_of now _ tried.all) within (λ safe. tried.moments)
+    called_so was now (history_of now _ tried.all) within (λ safe. tried.moments)
 
 -- ---- one more note
 
@@ -114,19 +121,8 @@ left_safe P old new left each =
 
 pub stopped_keeps : (was now : TapePast) → IsWithin was → IsStopped was now → KeepsNotesOf was now
 stopped_keeps was now within stops =
-    let same : now.history ≡ was.history = history_of now _ stops.all in
-    record {
-      base = ap (λ (h : History). h.base) same;
-      notes = ap (λ (h : History). h.notes) same;
-      keeps = record {
-        kept = omega (arith, ap (λ (h : History). h.kept) same);
-        within = subst (λ (h : History). h.kept ≤ length h.notes) (sym same) within;
-        stays = tape_same was now same;
-        safe = λ safe. subst (λ (h : History). EachLedger (IsPrefix h) now.log) (sym same)
-            (left_safe (IsPrefix was.history) was.log now.log stops.left safe);
-        moments = λ safe. inr (safe, stops.left);
-      };
-    }
+    same_history was now (history_of now _ stops.all) within
+    (λ safe. left_safe (IsPrefix was.history) was.log now.log stops.left safe) (λ safe. inr (safe, stops.left))
 
 pub opened_history : (was now : TapePast) (opens : IsReopened was now)
     → now.history ≡ recovered was.history opens.prefix.count

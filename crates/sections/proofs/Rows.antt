@@ -1,7 +1,7 @@
 -- Worked runs, computed: of a post of one station whose tapes are empty, none of whose sections writes to a disk; and a
 -- receipt that has counted a station.
 use Rattle.std.proofs.Common.{◌≡◌, ◌+◌, ◌<◌, ℕ, zero, suc, true, false, None, Some, [], ◌∷◌, refl}
-use Rattle.std.proofs.Common.{sym, ap, subst, arith}
+use Rattle.std.proofs.Common.{List, sym, ap, subst, arith}
 use Rattle.std.specs.Prelude.{codes}
 use Rattle.std.specs.List.{slice_get}
 use Rattle.disk_model.specs.Disk.Event.{Made}
@@ -113,8 +113,10 @@ abbrev stopped : PostPast
 stopped =
     record { stations = stopped_station ∷ []; intake = left_of tape; intake_runs = false; last = 1; sealings = [] }
 
-no_note_there : IsPrefix (noted begun line) start
-no_note_there = record {
+-- no note is found of any that pend
+abbrev nothing_found : (notes : List Note)
+    → IsPrefix (record { base = start; notes = notes; kept = 0; opened = 0 }) start
+nothing_found notes = record {
   count = 0;
   enough = omega arith;
   within = omega arith;
@@ -125,15 +127,9 @@ no_note_there = record {
 station_opens : IsReopened (left_of tape_taken) (left_of tape)
 station_opens = record {
   state = start;
-  prefix = record {
-    count = 0;
-    enough = omega arith;
-    within = omega arith;
-    legal = record { whole = whole-start; notes_are = tt; legal = tt };
-    is = refl;
-  };
+  prefix = nothing_found (line ∷ []);
   found = nothing_lies;
-  moments = at_start (nothing_left (IsPrefix (noted begun line)) no_note_there);
+  moments = at_start (nothing_left (IsPrefix (noted begun line)) (nothing_found (line ∷ [])));
   left = nothing_left (IsPrefix begun) no_notes;
   all = refl;
 }
@@ -141,13 +137,7 @@ station_opens = record {
 intake_opens : IsReopened (left_of tape) (left_of tape)
 intake_opens = record {
   state = start;
-  prefix = record {
-    count = 0;
-    enough = omega arith;
-    within = omega arith;
-    legal = record { whole = whole-start; notes_are = tt; legal = tt };
-    is = refl;
-  };
+  prefix = nothing_found [];
   found = nothing_lies;
   moments = at_start (nothing_left (IsPrefix begun) no_notes);
   left = nothing_left (IsPrefix begun) no_notes;
