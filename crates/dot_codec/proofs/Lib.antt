@@ -3,6 +3,7 @@ pub mod Faults
 pub mod Forms
 pub mod Nexts
 pub mod Offsets
+pub mod Parts
 mod Rows
 pub mod Runs
 pub mod Stops

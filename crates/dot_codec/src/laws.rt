@@ -1,9 +1,10 @@
 //! Laws of texts, lines and blocks. Each function does nothing: its contract is the law.
-ghost use Rattle.std.specs.Prelude.{◌≡◌, ◌++◌, ℕ, List};
+ghost use Rattle.std.specs.Prelude.{◌≡◌, ◌++◌, ℕ, List, Some};
 ghost use Rattle.std.specs.List.{AllByRecursion};
 ghost use Rattle.dot_codec.specs.Lines.{HasLines, IsLine, text_of};
-ghost use Rattle.dot_codec.specs.Block.{IsReadForm, written};
+ghost use Rattle.dot_codec.specs.Block.{IsReadForm, end_of_block, written};
 ghost use Rattle.dot_codec.specs.Fault.{HasBlockFault};
+ghost use Rattle.dot_codec.specs.Stored.{AreWholeLines, stored_text};
 ghost use Rattle.dot_codec.specs.declared.fault.BlockFault.{BlockFault};
 
 /// A text has one list of lines, and every list of lines belongs to a text.
@@ -37,4 +38,13 @@ pub fn faults_once()
         → HasBlockFault octets b → a ≡ b }
     ensures never { (lines : List (List ℕ)) (form rest : List ℕ) (fault : BlockFault)
         → IsReadForm lines form → HasBlockFault (form ++ rest) fault → ⊥ }
+{}
+
+/// The written form of lines is stored as a text with those lines. So what innd stores as `to_block` would write it is
+/// sent octet for octet as it is stored. Octets that are stored as a text are whole lines and the end of a block.
+pub fn stored_as_written()
+    ensures lines { (lines : List (List ℕ)) → AllByRecursion IsLine lines
+        → (text : List ℕ) × (stored_text (written lines) ≡ Some text) × HasLines text lines }
+    ensures end { (octets text : List ℕ) → stored_text octets ≡ Some text
+        → (body : List ℕ) × (octets ≡ body ++ end_of_block) × AreWholeLines body }
 {}
