@@ -1,7 +1,8 @@
 // The articles of the batch, one after another.
 use crate::directory::Directory;
 use crate::fault::FilingFault;
-use rnews::{Waiting, article_length, message_id};
+use header_fields::message_id;
+use rnews::{Waiting, article_length};
 use std::alloc::Global;
 use std::io::{BufRead, BufReader, ErrorKind, Read, Write};
 use std::rt::Files;

@@ -1,4 +1,2 @@
-pub mod Bodies
-pub mod Ids
 pub mod Keys
 pub mod Waits

@@ -1,4 +1,3 @@
--- The lines before articles, the headers of articles, and the tokens that wait for articles.
+-- The lines before articles, and the tokens that wait for articles.
 pub mod Batch
-pub mod Header
 pub mod Waits

@@ -1,7 +1,7 @@
 -- What was written so far and what is left make up the whole.
 use Rattle.std.proofs.Common.{◌≡◌, ◌++◌, map, drop}
-use Rattle.rnews.specs.Header.{folds}
-use Rattle.rnews.proofs.header.unfolded.Given as goal
+use Rattle.header_fields.specs.Header.{folds}
+use Rattle.header_fields.proofs.header.unfolded.Given as goal
 
 abbrev pub invariant-loop-line : goal.invariant-loop-line
 invariant-loop-line l =

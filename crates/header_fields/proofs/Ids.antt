@@ -3,7 +3,7 @@ use Rattle.std.proofs.Common.{◌≡◌, ◌↔◌, ℕ, Bool, true, false, List
 use Rattle.std.proofs.Common.{IfSome, IsSome, IsTrue, count_by, refl, sym, ap, ◌∙◌}
 use Rattle.std.proofs.lemmas.Bool.{false≢true}
 use Rattle.funnel.specs.Names.{is_msg_id}
-use Rattle.rnews.specs.Header.{begins_field, first_body, id_in, trimmed}
+use Rattle.header_fields.specs.Header.{begins_field, first_body, id_in, trimmed}
 
 by_form : (lines : List (List ℕ)) (text : List ℕ) (found : Option (List ℕ)) (form : Bool) → is_msg_id text ≡ form
     → count_by begins_field lines ≡ 1 → text ≡ trimmed (first_body lines) → IsSome found ↔ IsTrue (is_msg_id text)

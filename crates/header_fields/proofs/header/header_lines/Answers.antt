@@ -4,8 +4,8 @@ use Rattle.std.proofs.lemmas.Iterator.Consumers.{map_from_collect}
 use Rattle.std.proofs.lemmas.Iterator.Search.{YieldsList-from_take_while}
 use Rattle.std.proofs.lemmas.Iterator.Splits.{YieldsList-from_slice_split}
 use Rattle.std.specs.Slice.Iter.{split_callee, split_done, split_rest}
-use Rattle.rnews.specs.Header.{is_empty_line}
-use Rattle.rnews.proofs.header.header_lines.Goals as goal
+use Rattle.header_fields.specs.Header.{is_empty_line}
+use Rattle.header_fields.proofs.header.header_lines.Goals as goal
 use borrow.Author.Tests.{tests}
 
 pub returns : goal.returns

@@ -1,7 +1,7 @@
 -- The body of a field, line by line.
 use Rattle.std.proofs.Common.{◌≡◌, ◌++◌, ◌∷◌, ◌+◌, ◌<◌, [], ℕ, Bor, true, false, List, length, map, drop}
 use Rattle.std.proofs.Common.{drop-cons, get_or, add-one, suc, refl, sym, ap, ◌∙◌}
-use Rattle.rnews.specs.Header.{begins_field, first_body, folds, is_folded}
+use Rattle.header_fields.specs.Header.{begins_field, first_body, folds, is_folded}
 
 pub folds-more : (line : List ℕ) (others : List (List ℕ)) → is_folded line ≡ true
     → folds (line ∷ others) ≡ line ++ folds others

@@ -1,7 +1,7 @@
 -- The lines so far have no such field.
 use Rattle.std.proofs.Common.{◌≡◌, map, drop}
-use Rattle.rnews.specs.Header.{first_body}
-use Rattle.rnews.proofs.header.first_body.Given as goal
+use Rattle.header_fields.specs.Header.{first_body}
+use Rattle.header_fields.proofs.header.first_body.Given as goal
 
 abbrev pub invariant-loop-index : goal.invariant-loop-index
 invariant-loop-index l =

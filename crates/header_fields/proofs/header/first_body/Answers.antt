@@ -1,8 +1,8 @@
 -- The field begins on this line, and on none before.
 use Rattle.std.proofs.Common.{◌≡◌, ◌++◌, ◌+◌, IfOk, drop, map, refl, sym, ap, ◌∙◌, subst}
-use Rattle.rnews.specs.Header.{folds}
-use Rattle.rnews.proofs.Bodies.{first_body-at}
-use Rattle.rnews.proofs.header.first_body.Goals as goal
+use Rattle.header_fields.specs.Header.{folds}
+use Rattle.header_fields.proofs.Bodies.{first_body-at}
+use Rattle.header_fields.proofs.header.first_body.Goals as goal
 
 pub returns-then-begins_field : goal.returns-then-begins_field
 returns-then-begins_field c =

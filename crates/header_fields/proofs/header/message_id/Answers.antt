@@ -1,9 +1,9 @@
 -- The one field's text, trimmed, is the message-id if it has the form of one.
 use Rattle.std.proofs.Common.{◌≡◌, List, map, refl, sym, ap, ◌∙◌, subst}
 use Rattle.std.proofs.lemmas.Str.Ascii.{trim_ascii_is}
-use Rattle.rnews.specs.Header.{begins_field, first_body, header_lines, trimmed, trimmed_start}
-use Rattle.rnews.proofs.Ids.{found_is}
-use Rattle.rnews.proofs.header.message_id.Goals as goal
+use Rattle.header_fields.specs.Header.{begins_field, first_body, header_lines, trimmed, trimmed_start}
+use Rattle.header_fields.proofs.Ids.{found_is}
+use Rattle.header_fields.proofs.header.message_id.Goals as goal
 
 pub returns : goal.returns
 returns c =

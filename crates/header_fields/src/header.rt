@@ -1,7 +1,7 @@
 // The header of an article.
 ghost use Rattle.std.specs.Prelude.{◌≡◌, ◌++◌, IfOk, List, count_by, map};
-ghost use Rattle.rnews.specs.Header.{begins_field, first_body, folds, header_lines, is_empty_line, is_folded};
-ghost use Rattle.rnews.specs.Header.{message_id_of};
+ghost use Rattle.header_fields.specs.Header.{begins_field, first_body, folds, header_lines, is_empty_line, is_folded};
+ghost use Rattle.header_fields.specs.Header.{message_id_of};
 
 use funnel::MsgId;
 use std::alloc::{AllocError, Global};

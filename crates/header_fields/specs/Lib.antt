@@ -1,0 +1,2 @@
+-- The header of an article.
+pub mod Header
