@@ -11,7 +11,8 @@ use Rattle.feed_conf.specs.Values.{Value, TextOf, SwitchOf, NumberOf, Taken, bou
 use Rattle.feed_conf.specs.Values.{taken_of, switch_of, number_of, whole_of, hundredths_of}
 use Rattle.feed_conf.specs.Reading.{Use, Declared, State, start, innermost, number_in, is_in_peer, is_in_block}
 use Rattle.feed_conf.specs.Reading.{is_declared, declare, open_block, block_at, close_block, report, use_key, use_value}
-use Rattle.feed_conf.specs.Reading.{use_taken, step, at_line, then_on, run_line, run_lines, closed, finish}
+use Rattle.feed_conf.specs.Reading.{use_taken, step, at_line, then_on, run_line, run_lines}
+use Rattle.feed_conf.specs.Reading.{closed, finish}
 use Rattle.funnel.specs.Names.{is_peer_name}
 use Rattle.feed_conf.specs.Settings.{number, later, value_at, last_value, path_of, value_along, value_of}
 use Rattle.feed_conf.specs.Bounds.{greatest, AreBounded}
@@ -132,21 +133,21 @@ close-step : (block : Option OpenBlock) (state next : State) → AreBounded stat
 close-step None state next h e = cc
 close-step (Some block) state next h e = same-uses state _ next h refl e
 
-limited-step : (limited : Bool) (more : State) (line : ℕ) (name : List ℕ) → AreBounded more.uses
-    → AreBounded (cond limited (report more line name true) more).uses
-limited-step true more line name h = h
-limited-step false more line name h = h
+limited-step : (limited : Bool) (more : State) (line : ℕ) (name value : List ℕ) → AreBounded more.uses
+    → AreBounded (cond limited (report more line name value true) more).uses
+limited-step true more line name value h = h
+limited-step false more line name value h = h
 
 take-step : (state next : State) (line : ℕ) (name : List ℕ) (key : SettingKey) (r : Result Taken ConfFaultKind)
     (octets : List ℕ) → AreBounded state.uses → taken_of (row_of key).kind octets ≡ r →
-    use_taken state line name key r ≡ Ok next → AreBounded next.uses
+    use_taken state line name octets key r ≡ Ok next → AreBounded next.uses
 take-step state next line name key (Err kind) octets h t e = cc
 take-step state next line name key (Ok taken) octets h t e =
     let entry : Use = record { block = number_in (innermost state.around); key = key; value = taken.value } in
     let more : State = record state { uses = state.uses ++ entry ∷ [] } in
-    let is : cond taken.limited (report more line name true) more ≡ next = cc in
+    let is : cond taken.limited (report more line name octets true) more ≡ next = cc in
     subst (λ (s : State). AreBounded s.uses) is
-    (limited-step taken.limited more line name
+    (limited-step taken.limited more line name octets
     (one-more state.uses entry h (taken-within (row_of key).kind octets taken t)))
 
 value-step : (state next : State) (line : ℕ) (name : List ℕ) (key : SettingKey) (value : Option (List ℕ))
@@ -158,14 +159,17 @@ value-step state next line name key (Some octets) h e =
 file-step : (ignored : Bool) (state next : State) (line : ℕ) (name : List ℕ) (key : SettingKey) (value : Option (List
     ℕ))
     → AreBounded state.uses →
-    cond ignored (made_as (report state line name false)) (use_value state line name key value) ≡ Ok next
+    cond ignored (made_as (report state line name (unwrap_or value []) false))
+    (use_value state line name key value) ≡ Ok next
     → AreBounded next.uses
-file-step true state next line name key value h e = same-uses state (report state line name false) next h refl e
+file-step true state next line name key value h e =
+    same-uses state (report state line name (unwrap_or value []) false) next h refl e
 file-step false state next line name key value h e = value-step state next line name key value h e
 
 key-step : (state next : State) (line : ℕ) (name : List ℕ) (value : Option (List ℕ)) (key : Option SettingKey)
     → AreBounded state.uses → use_key state line name value key ≡ Ok next → AreBounded next.uses
-key-step state next line name value None h e = same-uses state (report state line name false) next h refl e
+key-step state next line name value None h e =
+    same-uses state (report state line name (unwrap_or value []) false) next h refl e
 key-step state next line name value (Some key) h e =
     file-step ((row_of key).of_file && is_in_block (innermost state.around)) state next line name key value h e
 
@@ -180,7 +184,7 @@ step-bounded state next line Group h e =
     (open_block state (block_at state line false)) next Unbalanced h refl e
 step-bounded state next line Closes h e = close-step (innermost state.around) state next h e
 step-bounded state next line (Uses name value) h e = key-step state next line name value (key_of name) h e
-step-bounded state next line (Stops kind) h e = cc
+step-bounded state next line (Stops stop) h e = cc
 
 same-state : (state next : State) → AreBounded state.uses → read_as state ≡ Ok next → AreBounded next.uses
 same-state state next h e =

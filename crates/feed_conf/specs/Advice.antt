@@ -1,11 +1,12 @@
 -- Messages on settings that are ignored or limited, and on a configuration without peers (docs/MANUAL.md).
-use Rattle.std.specs.Prelude.{◌||◌, ℕ, Bool, true, false, List, [], ◌∷◌, ◌++◌, Option, None, Some, codes, flat_map}
-use Rattle.std.specs.Prelude.{if◌then◌else◌}
+use Rattle.std.specs.Prelude.{◌&&◌, ◌||◌, ℕ, Bool, true, false, List, [], ◌∷◌, ◌++◌, Option, None, Some}
+use Rattle.std.specs.Prelude.{codes, flat_map, if◌then◌else◌}
 use Rattle.std.specs.Str.{bytes_eq}
 use Rattle.feed_conf.specs.Explanation.{place_text}
 use Rattle.feed_conf.specs.Keys.{key_of}
 use Rattle.feed_conf.specs.Reading.{Report}
 use Rattle.feed_conf.specs.Settings.{Outcome, Settings}
+use Rattle.feed_conf.specs.Values.{spells_false}
 use Rattle.feed_conf.specs.declared.key.SettingKey.{SettingKey}
 
 -- settings of INN by which a connection logs in
@@ -37,11 +38,14 @@ is_house name =
     || bytes_eq name (codes "stats-period") || bytes_eq name (codes "stats-reset")
     || bytes_eq name (codes "fast-exit") || bytes_eq name (codes "use-mmap") || bytes_eq name (codes "stdio-fdmax")
 
+-- settings of INN that say how often it looks for backlog files while it runs
+abbrev pub is_import : List ℕ → Bool
+is_import name = bytes_eq name (codes "backlog-rotate-period") || bytes_eq name (codes "backlog-newfile-period")
+
 -- settings of INN that say when its files and names are renewed, and what waits in memory
 abbrev pub is_timing : List ℕ → Bool
 is_timing name =
-    bytes_eq name (codes "backlog-rotate-period") || bytes_eq name (codes "backlog-ckpt-period")
-    || bytes_eq name (codes "backlog-newfile-period") || bytes_eq name (codes "backlog-highwater")
+    bytes_eq name (codes "backlog-ckpt-period") || bytes_eq name (codes "backlog-highwater")
     || bytes_eq name (codes "host-queue-highwater") || bytes_eq name (codes "initial-sleep")
     || bytes_eq name (codes "dns-retry") || bytes_eq name (codes "dns-expire")
 
@@ -52,9 +56,54 @@ is_mail name =
     || bytes_eq name (codes "deliver-username") || bytes_eq name (codes "deliver-realm")
     || bytes_eq name (codes "deliver-rcpt-to") || bytes_eq name (codes "deliver-to-header")
 
--- what it means for the feed that a setting is ignored whose name the profile does not have
-abbrev pub foreign_text : List ℕ → List ℕ
-foreign_text name =
+-- settings of INN that are off by default
+abbrev pub is_off_by_default : List ℕ → Bool
+is_off_by_default name =
+    bytes_eq name (codes "force-ipv4") || bytes_eq name (codes "min-queue-connection")
+    || bytes_eq name (codes "no-backlog") || bytes_eq name (codes "backlog-feed-first")
+
+-- settings of INN for the address of a connection
+abbrev pub is_address : List ℕ → Bool
+is_address name = bytes_eq name (codes "bindaddress") || bytes_eq name (codes "bindaddress6")
+
+-- INN's default addresses
+abbrev pub is_default_address : (name value : List ℕ) → Bool
+is_default_address name value = is_address name && bytes_eq value (codes "any")
+
+-- settings of INN whose default is ten minutes
+abbrev pub is_ten_minutes : List ℕ → Bool
+is_ten_minutes name = bytes_eq name (codes "article-timeout") || bytes_eq name (codes "backlog-newfile-period")
+
+-- INN's default times, in seconds
+abbrev pub is_default_time : (name value : List ℕ) → Bool
+is_default_time name value =
+    (is_ten_minutes name && bytes_eq value (codes "600"))
+    || (bytes_eq name (codes "backlog-rotate-period") && bytes_eq value (codes "60"))
+    || (bytes_eq name (codes "close-period") && bytes_eq value (codes "86400"))
+
+-- INN's defaults for the waters of a queue by which the number of connections grows
+abbrev pub is_default_water : (name value : List ℕ) → Bool
+is_default_water name value =
+    (bytes_eq name (codes "dynamic-backlog-low") && bytes_eq value (codes "20.0"))
+    || (bytes_eq name (codes "dynamic-backlog-high") && bytes_eq value (codes "50.0"))
+    || (bytes_eq name (codes "dynamic-backlog-filter") && bytes_eq value (codes "0.7"))
+
+-- INN's defaults for how the number of connections grows
+abbrev pub is_default_growth : (name value : List ℕ) → Bool
+is_default_growth name value =
+    (bytes_eq name (codes "initial-connections") && bytes_eq value (codes "1"))
+    || (bytes_eq name (codes "dynamic-method") && bytes_eq value (codes "3")) || is_default_water name value
+
+-- INN's default for a setting that would change the feed (innfeed.conf(5))
+abbrev pub is_inn_default : (name value : List ℕ) → Bool
+is_inn_default name value =
+    (is_off_by_default name && spells_false value) || is_default_address name value || is_default_time name value
+    || is_default_growth name value
+
+-- what it means for the feed that a setting is ignored whose name the profile does not have, unless the value is INN's
+-- default
+abbrev pub changed_text : List ℕ → List ℕ
+changed_text name =
     if is_login name then codes "changes the feed: innfeed does not log in to its peers" else (
     if is_source name then codes "changes the feed: the system chooses the addresses of connections" else (
     if is_growth name then codes "changes the feed: connections are opened as the queue grows" else (
@@ -63,19 +112,25 @@ foreign_text name =
     if bytes_eq name (codes "no-backlog") then codes "changes the feed: what a peer does not take stays queued" else (
     if bytes_eq name (codes "backlog-feed-first")
     then codes "changes the feed: the oldest article is offered first" else (
+    if is_import name then codes "changes the feed: backlog files are taken in at the start alone" else (
     if bytes_eq name (codes "input-file") then codes "changes the feed: FUNNEL is an argument" else (
     if is_house name || is_timing name || is_mail name then codes "does not change the feed" else
-    codes "innfeed.conf(5) has no such setting")))))))
+    codes "innfeed.conf(5) has no such setting"))))))))
+
+-- the same for any value
+abbrev pub foreign_text : (name value : List ℕ) → List ℕ
+foreign_text name value =
+    if is_inn_default name value then codes "does not change the feed: this is INN's default" else changed_text name
 
 -- what it means that a setting of this name is ignored
-abbrev pub effect_text : List ℕ → Option SettingKey → List ℕ
-effect_text name None = foreign_text name
-effect_text name (Some key) = codes "belongs outside all blocks"
+abbrev pub effect_text : (name value : List ℕ) → Option SettingKey → List ℕ
+effect_text name value None = foreign_text name value
+effect_text name value (Some key) = codes "belongs outside all blocks"
 
 -- what became of a setting
 abbrev pub advice_text : Report → Bool → List ℕ
 advice_text report true = codes ": limited; the greatest value that is allowed is taken"
-advice_text report false = codes ": ignored; " ++ effect_text report.key (key_of report.key)
+advice_text report false = codes ": ignored; " ++ effect_text report.key report.value (key_of report.key)
 
 -- the line on a setting that is ignored or limited
 abbrev pub report_text : (file : List ℕ) → Report → List ℕ

@@ -1,7 +1,10 @@
 -- Messages that explain a faulty configuration (docs/MANUAL.md).
-use Rattle.std.specs.Prelude.{◌+◌, ◌/◌, ℕ, List, [], ◌∷◌, ◌++◌, Option, None, Some, Result, Ok, Err, codes, decimal}
-use Rattle.std.specs.Prelude.{flat_map, map}
-use Rattle.feed_conf.specs.Items.{Item, Uses, items_of}
+use Rattle.std.specs.Prelude.{◌+◌, ◌-◌, ◌/◌, ℕ, Bool, true, false, List, [], ◌∷◌, ◌++◌, Option, None, Some}
+use Rattle.std.specs.Prelude.{Result, Ok, Err, codes, decimal, filter, flat_map, get_or, map, not, if◌then◌else◌}
+use Rattle.std.specs.Option.{is_some}
+use Rattle.std.specs.Str.{bytes_eq}
+use Rattle.feed_conf.specs.Items.{Item, Peer, Group, Closes, Uses, Stops, items_of}
+use Rattle.feed_conf.specs.Items.{Stop, NoColon, NoBrace, NoName, LoneBrace, LoneQuote}
 use Rattle.feed_conf.specs.Keys.{row_of, key_of}
 use Rattle.feed_conf.specs.Reading.{lines_of}
 use Rattle.feed_conf.specs.Values.{Taken, taken_of}
@@ -63,7 +66,81 @@ abbrev pub items_text : (file : List ℕ) → (line : ℕ) → List (List Item) 
 items_text file line [] = []
 items_text file line (items ∷ lines) = flat_map (item_text file line) items ++ items_text file (line + 1) lines
 
--- the words for a fault that is not of a value
+-- that a word is no key, and the cure
+abbrev pub colon_text : (word : List ℕ) → List ℕ
+colon_text word =
+    if bytes_eq word (codes "$INCLUDE") then codes "$INCLUDE is not read: put the lines of that file here" else
+    word ++ codes ": no colon follows; write " ++ word ++ codes ":, without a blank before the colon"
+
+-- why a line cannot be read further, and the cure
+abbrev pub stop_text : Stop → List ℕ
+stop_text (NoColon word) = colon_text word
+stop_text (NoBrace name) = codes "group " ++ name ++ codes ": no brace follows; put it on the line of the name"
+stop_text NoName = codes "group: no name follows; write group NAME and a brace"
+stop_text LoneBrace = codes "{: no name is before it; put the brace on the line of its name"
+stop_text LoneQuote = 34 ∷ codes ": the quote has no counterpart on its line"
+
+-- what is wrong with a peer's declaration
+abbrev pub peer_text : ConfFaultKind → (braced : Bool) → List ℕ
+peer_text BadPeerName braced =
+    codes "the name is missing or invalid; it has 1 to 64 letters, digits, '.', '-' and '_', the first not '.'"
+peer_text SamePeer braced = codes "a peer of this name is declared above"
+peer_text LowAboveHigh braced = codes "no-check-low is above no-check-high"
+peer_text _ true = codes "this block is inside a peer, or has no closing brace"
+peer_text _ false = codes "no brace follows; put it on the line of the name"
+
+-- what is wrong with an item that has this fault
+abbrev pub fault_words : ConfFaultKind → Item → List ℕ
+fault_words kind (Peer name braced) = codes "peer " ++ name ++ codes ": " ++ peer_text kind braced
+fault_words kind Group = codes "group: this block is inside a peer, or has no closing brace"
+fault_words kind Closes = codes "}: no block is open"
+fault_words kind (Uses key value) = key ++ codes ": no value follows; put it on the line of the key"
+fault_words kind (Stops stop) = stop_text stop
+
+abbrev pub is_peer : Item → Bool
+is_peer (Peer name braced) = true
+is_peer _ = false
+
+abbrev pub lacks_colon : Stop → Bool
+lacks_colon (NoColon word) = true
+lacks_colon _ = false
+
+-- whether an item may be a setting without a value, or a word that is no setting
+abbrev pub may_lack_value : Item → Bool
+may_lack_value (Uses key None) = is_some (key_of key)
+may_lack_value (Stops stop) = lacks_colon stop
+may_lack_value _ = false
+
+-- whether an item may be a quote or a brace without a counterpart, or a block inside a peer
+abbrev pub may_be_unbalanced : Item → Bool
+may_be_unbalanced (Uses key value) = false
+may_be_unbalanced (Stops stop) = not (lacks_colon stop)
+may_be_unbalanced _ = true
+
+-- whether an item may have a fault of this kind
+abbrev pub may_have : ConfFaultKind → Item → Bool
+may_have NoValue item = may_lack_value item
+may_have Unbalanced item = may_be_unbalanced item
+may_have BadPeerName item = is_peer item
+may_have SamePeer item = is_peer item
+may_have LowAboveHigh item = is_peer item
+may_have _ item = false
+
+-- the item, if there is only one
+abbrev pub only : List Item → Option Item
+only [] = None
+only (item ∷ []) = Some item
+only (item ∷ next ∷ items) = None
+
+-- the line of this number, counted from 1, without its LF
+abbrev pub line_at : ℕ → (text : List ℕ) → List ℕ
+line_at line text = get_or (lines_of text) (line - 1) []
+
+-- the item that has the fault: the only one of its line that may have a fault of that kind
+abbrev pub item_at_fault : (text : List ℕ) → ConfFault → Option Item
+item_at_fault text fault = only (filter (may_have fault.kind) (items_of (line_at fault.line text)))
+
+-- the words for a fault that is not of a value, if it may be of several items of its line
 abbrev pub words_of : ConfFaultKind → Option (List ℕ)
 words_of NoValue = Some (codes "a setting has no value, or a word is not a setting")
 words_of Unbalanced = Some (codes "a quote or a brace has no counterpart, or a block is inside a peer")
@@ -77,8 +154,13 @@ abbrev pub words_text : (file : List ℕ) → (line : ℕ) → Option (List ℕ)
 words_text file line None = []
 words_text file line (Some words) = place_text file line ++ words ++ 10 ∷ []
 
+-- the line on a fault that is not of a value, with the word that is at fault, if it is known
+abbrev pub fault_text : (file : List ℕ) → ConfFault → Option Item → List ℕ
+fault_text file fault None = words_text file fault.line (words_of fault.kind)
+fault_text file fault (Some item) = place_text file fault.line ++ fault_words fault.kind item ++ 10 ∷ []
+
 -- The lines on a configuration with this first fault: the fault itself unless it is of a value, and each value that
 -- its key does not take, in reading order.
 abbrev pub explanation : (file text : List ℕ) → ConfFault → List ℕ
 explanation file text fault =
-    words_text file fault.line (words_of fault.kind) ++ items_text file 1 (map items_of (lines_of text))
+    fault_text file fault (item_at_fault text fault) ++ items_text file 1 (map items_of (lines_of text))

@@ -4,7 +4,12 @@ use Rattle.std.specs.List.{find}
 use Rattle.std.specs.Str.{bytes_eq}
 use Rattle.feed_conf.specs.Values.{Value, TextOf, SwitchOf, NumberOf}
 use Rattle.feed_conf.specs.declared.key.SettingKey.{SettingKey}
-use Rattle.feed_conf.specs.declared.key.SettingKey.TheVariants.{IpName, PortNumber, Streaming, MaxConnections, MaxQueueSize, NoCheckHigh, NoCheckLow, NoCheckFilter, ResponseTimeout, InitialReconnectTime, MaxReconnectTime, DropDeferred, BacklogLimit, BacklogLimitHighwater, BacklogFactor, NewsSpool, BacklogDirectory, StatusFile, UnknownLimit}
+use Rattle.feed_conf.specs.declared.key.SettingKey.TheVariants.{IpName, PortNumber, Streaming, MaxConnections}
+use Rattle.feed_conf.specs.declared.key.SettingKey.TheVariants.{MaxQueueSize, NoCheckHigh, NoCheckLow, NoCheckFilter}
+use Rattle.feed_conf.specs.declared.key.SettingKey.TheVariants.{ResponseTimeout, InitialReconnectTime}
+use Rattle.feed_conf.specs.declared.key.SettingKey.TheVariants.{MaxReconnectTime, DropDeferred, BacklogLimit}
+use Rattle.feed_conf.specs.declared.key.SettingKey.TheVariants.{BacklogLimitHighwater, BacklogFactor, NewsSpool}
+use Rattle.feed_conf.specs.declared.key.SettingKey.TheVariants.{BacklogDirectory, StatusFile, UnknownLimit}
 use Rattle.feed_conf.specs.declared.key.Kind.{Kind}
 use Rattle.feed_conf.specs.declared.key.Kind.TheVariants.{AnyText, ShortText, Switch, Connections, Number, Whole, Fraction}
 
@@ -42,7 +47,9 @@ row_of UnknownLimit = record { index = 18; name = codes "unknown-limit"; kind = 
 
 abbrev pub all_keys : List SettingKey
 all_keys =
-    IpName ∷ PortNumber ∷ Streaming ∷ MaxConnections ∷ MaxQueueSize ∷ NoCheckHigh ∷ NoCheckLow ∷ NoCheckFilter ∷ ResponseTimeout ∷ InitialReconnectTime ∷ MaxReconnectTime ∷ DropDeferred ∷ BacklogLimit ∷ BacklogLimitHighwater ∷ BacklogFactor ∷ NewsSpool ∷ BacklogDirectory ∷ StatusFile ∷ UnknownLimit ∷ []
+    IpName ∷ PortNumber ∷ Streaming ∷ MaxConnections ∷ MaxQueueSize ∷ NoCheckHigh ∷ NoCheckLow ∷ NoCheckFilter
+    ∷ ResponseTimeout ∷ InitialReconnectTime ∷ MaxReconnectTime ∷ DropDeferred ∷ BacklogLimit ∷ BacklogLimitHighwater
+    ∷ BacklogFactor ∷ NewsSpool ∷ BacklogDirectory ∷ StatusFile ∷ UnknownLimit ∷ []
 
 abbrev pub key_of : List ℕ → Option SettingKey
 key_of name = find (λ key. bytes_eq (row_of key).name name) all_keys

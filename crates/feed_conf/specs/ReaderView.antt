@@ -20,7 +20,12 @@ abbrev pub declared_view : HeldPeer → Declared
 declared_view peer = record { name = peer.name; line = peer.line; block = peer.block }
 
 abbrev pub report_view : Ignored → Report
-report_view report = record { line = report.line; key = report.key.items; limited = report.limited }
+report_view report = record {
+  line = report.line;
+  key = report.key.items;
+  value = report.value.items;
+  limited = report.limited;
+}
 
 abbrev pub reader_view : Reader → State
 reader_view reader = record {

@@ -1,11 +1,11 @@
 -- What the lines of a configuration make, item by item, up to the first fault (profile).
 use Rattle.std.specs.Prelude.{◌==◌, ◌+◌, ◌-◌, ◌&&◌, ℕ, Bool, true, false, not, List, [], ◌∷◌, ◌++◌, length, take, map}
-use Rattle.std.specs.Prelude.{Option, None, Some, Result, Ok, Err, if◌then◌else◌}
+use Rattle.std.specs.Prelude.{Option, None, Some, Result, Ok, Err, unwrap_or, if◌then◌else◌}
 use Rattle.std.specs.List.{list_any, slice_get, slice_split}
 use Rattle.std.specs.Str.{bytes_eq}
 use Rattle.funnel.specs.Names.{is_peer_name}
 use Rattle.feed_conf.specs.Lexemes.{Lexeme, HasLexemes}
-use Rattle.feed_conf.specs.Items.{Item, Peer, Group, Closes, Uses, Stops, Nothing, items}
+use Rattle.feed_conf.specs.Items.{Item, Peer, Group, Closes, Uses, Stops, Nothing, items, stop_kind}
 use Rattle.feed_conf.specs.Keys.{row_of, key_of}
 use Rattle.feed_conf.specs.Values.{Value, Taken, taken_of}
 use Rattle.feed_conf.specs.declared.key.SettingKey.{SettingKey}
@@ -30,6 +30,8 @@ pub record Declared : Type 0 where
 pub record Report : Type 0 where
   pub line : ℕ
   pub key : List ℕ
+  -- as it is written; empty if there is none
+  pub value : List ℕ
   pub limited : Bool
 
 -- what was read so far
@@ -76,9 +78,10 @@ abbrev pub close_block : Option OpenBlock → State → Result State ConfFaultKi
 close_block None state = Err Unbalanced
 close_block (Some block) state = Ok (record state { around = take (length state.around - 1) state.around })
 
-abbrev pub report : State → ℕ → List ℕ → Bool → State
-report state line key limited =
-    record state { reports = state.reports ++ record { line = line; key = key; limited = limited } ∷ [] }
+abbrev pub report : State → ℕ → (key value : List ℕ) → Bool → State
+report state line key value limited =
+    record state
+    { reports = state.reports ++ record { line = line; key = key; value = value; limited = limited } ∷ [] }
 
 abbrev pub is_declared : List ℕ → List Declared → Bool
 is_declared name peers = list_any (λ (peer : Declared). bytes_eq name peer.name) peers
@@ -97,26 +100,27 @@ declare_peer state line name braced =
     if is_declared name state.peers then Err SamePeer else (
     if braced then Ok (declare state line name) else Err Unbalanced)))
 
-abbrev pub use_taken : State → ℕ → List ℕ → SettingKey → Result Taken ConfFaultKind → Result State ConfFaultKind
-use_taken state line name key (Err kind) = Err kind
-use_taken state line name key (Ok taken) =
+abbrev pub use_taken : State → ℕ → (name value : List ℕ) → SettingKey → Result Taken ConfFaultKind
+    → Result State ConfFaultKind
+use_taken state line name value key (Err kind) = Err kind
+use_taken state line name value key (Ok taken) =
     let next =
     record state {
       uses = state.uses ++ record
           { block = number_in (innermost state.around); key = key; value = taken.value } ∷ [];
     } in
-    Ok (if taken.limited then report next line name true else next)
+    Ok (if taken.limited then report next line name value true else next)
 
 abbrev pub use_value : State → ℕ → List ℕ → SettingKey → Option (List ℕ) → Result State ConfFaultKind
 use_value state line name key None = Err NoValue
-use_value state line name key (Some value) = use_taken state line name key (taken_of (row_of key).kind value)
+use_value state line name key (Some value) = use_taken state line name value key (taken_of (row_of key).kind value)
 
 -- a key outside the profile is ignored, and so is a key of the file inside a block
 abbrev pub use_key : State → ℕ → List ℕ → Option (List ℕ) → Option SettingKey → Result State ConfFaultKind
-use_key state line name value None = Ok (report state line name false)
+use_key state line name value None = Ok (report state line name (unwrap_or value []) false)
 use_key state line name value (Some key) =
     if (row_of key).of_file && is_in_block (innermost state.around) then Ok
-    (report state line name false) else use_value state line name key value
+    (report state line name (unwrap_or value []) false) else use_value state line name key value
 
 abbrev pub step : State → ℕ → Item → Result State ConfFaultKind
 step state line (Peer name braced) = declare_peer state line name braced
@@ -124,7 +128,7 @@ step state line Group =
     if is_in_peer (innermost state.around) then Err Unbalanced else Ok (open_block state (block_at state line false))
 step state line Closes = close_block (innermost state.around) state
 step state line (Uses name value) = use_key state line name value (key_of name)
-step state line (Stops kind) = Err kind
+step state line (Stops stop) = Err (stop_kind stop)
 
 -- what follows if there was no fault
 abbrev pub at_line : ℕ → Result State ConfFaultKind → (State → Result State ConfFault) → Result State ConfFault

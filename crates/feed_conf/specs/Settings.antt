@@ -1,6 +1,6 @@
 -- The values of a peer, computed from the uses of keys (profile).
-use Rattle.std.specs.Prelude.{◌==◌, ◌&&◌, ◌-◌, ◌*◌, ◌/◌, ℕ, suc, zero, Bool, false, List, [], ◌∷◌, nat_lt, map, Option}
-use Rattle.std.specs.Prelude.{None, Some, Result, Ok, Err, unwrap_or, if◌then◌else◌}
+use Rattle.std.specs.Prelude.{◌==◌, ◌&&◌, ◌-◌, ◌*◌, ◌/◌, ℕ, suc, zero, Bool, false, List, [], ◌∷◌}
+use Rattle.std.specs.Prelude.{nat_lt, map, Option, None, Some, Result, Ok, Err, unwrap_or, if◌then◌else◌}
 use Rattle.std.specs.List.{find, slice_index}
 use Rattle.feed_conf.specs.Lexemes.{Lexeme}
 use Rattle.feed_conf.specs.Keys.{row_of}

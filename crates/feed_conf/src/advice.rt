@@ -1,8 +1,10 @@
 // Messages on settings that are ignored or limited, and on a configuration without peers (docs/MANUAL.md).
 ghost use Rattle.std.specs.Prelude.{◌≡◌, ◌++◌, IfOk, OnOk, flat_map, map};
-ghost use Rattle.feed_conf.specs.Advice.{advice, advice_text, effect_text, foreign_text, is_closing, is_growth};
-ghost use Rattle.feed_conf.specs.Advice.{is_house, is_login, is_mail, is_source, is_timing, no_peers_text};
-ghost use Rattle.feed_conf.specs.Advice.{peers_text, report_text};
+ghost use Rattle.feed_conf.specs.Advice.{advice, advice_text, changed_text, effect_text, foreign_text, is_closing};
+ghost use Rattle.feed_conf.specs.Advice.{is_address, is_default_address, is_default_growth, is_default_time};
+ghost use Rattle.feed_conf.specs.Advice.{is_default_water, is_growth, is_import, is_inn_default, is_ten_minutes};
+ghost use Rattle.feed_conf.specs.Advice.{is_house, is_login, is_mail, is_off_by_default, is_source, is_timing};
+ghost use Rattle.feed_conf.specs.Advice.{no_peers_text, peers_text, report_text};
 ghost use Rattle.feed_conf.specs.ConfView.{conf_view};
 ghost use Rattle.feed_conf.specs.Keys.{key_of};
 ghost use Rattle.feed_conf.specs.PeerView.{settings_view};
@@ -12,6 +14,7 @@ use crate::conf::{Conf, Ignored, PeerConf};
 use crate::explanation::add_place;
 use crate::item::is_text;
 use crate::key::find_key;
+use crate::value::spells_false;
 use std::alloc::{AllocError, Global};
 
 /// The messages on `conf`, which was read from `file`: one for each setting that is ignored or limited, in reading
@@ -41,7 +44,7 @@ fn add_report(out: &mut Vec<u8>, file: &[u8], report: &Ignored) -> Result<(), Al
         out.extend_from_slice(b": limited; the greatest value that is allowed is taken\n")
     } else {
         out.extend_from_slice(b": ignored; ")?;
-        out.extend_from_slice(effect(&report.key))?;
+        out.extend_from_slice(effect(&report.key, &report.value))?;
         out.push(b'\n')?;
         Ok(())
     }
@@ -67,18 +70,29 @@ fn add_no_peers(out: &mut Vec<u8>, file: &[u8]) -> Result<(), AllocError>
 }
 
 // What it means that a setting of this name is ignored, whether or not the profile has it.
-fn effect(name: &[u8]) -> &'static [u8]
-    ensures { result.now ≡ effect_text name.now (key_of name.now) }
+fn effect(name: &[u8], value: &[u8]) -> &'static [u8]
+    ensures { result.now ≡ effect_text name.now value.now (key_of name.now) }
 {
     match find_key(name) {
         Some(_) => b"belongs outside all blocks",
-        None => foreign_effect(name),
+        None => foreign_effect(name, value),
     }
 }
 
 // The same for a name that the profile does not have: a setting of INN's, or an unknown one.
-fn foreign_effect(name: &[u8]) -> &'static [u8]
-    ensures { result.now ≡ foreign_text name.now }
+fn foreign_effect(name: &[u8], value: &[u8]) -> &'static [u8]
+    ensures { result.now ≡ foreign_text name.now value.now }
+{
+    if is_inn_default(name, value) {
+        b"does not change the feed: this is INN's default"
+    } else {
+        changed_effect(name)
+    }
+}
+
+// The same, unless the value is INN's default.
+fn changed_effect(name: &[u8]) -> &'static [u8]
+    ensures { result.now ≡ changed_text name.now }
 {
     if is_login(name) {
         b"changes the feed: innfeed does not log in to its peers"
@@ -92,6 +106,8 @@ fn foreign_effect(name: &[u8]) -> &'static [u8]
         b"changes the feed: what a peer does not take stays queued"
     } else if is_text(name, b"backlog-feed-first") {
         b"changes the feed: the oldest article is offered first"
+    } else if is_import(name) {
+        b"changes the feed: backlog files are taken in at the start alone"
     } else if is_text(name, b"input-file") {
         b"changes the feed: FUNNEL is an argument"
     } else if is_house(name) || is_timing(name) || is_mail(name) {
@@ -99,6 +115,73 @@ fn foreign_effect(name: &[u8]) -> &'static [u8]
     } else {
         b"innfeed.conf(5) has no such setting"
     }
+}
+
+// INN's default for a setting that would change the feed.
+fn is_inn_default(name: &[u8], value: &[u8]) -> bool
+    ensures { result ≡ is_inn_default name.now value.now }
+{
+    (is_off_by_default(name) && spells_false(value))
+        || is_default_address(name, value)
+        || is_default_time(name, value)
+        || is_default_growth(name, value)
+}
+
+// Settings that are off by default.
+fn is_off_by_default(name: &[u8]) -> bool
+    ensures { result ≡ is_off_by_default name.now }
+{
+    is_text(name, b"force-ipv4")
+        || is_text(name, b"min-queue-connection")
+        || is_text(name, b"no-backlog")
+        || is_text(name, b"backlog-feed-first")
+}
+
+// INN's default addresses.
+fn is_default_address(name: &[u8], value: &[u8]) -> bool
+    ensures { result ≡ is_default_address name.now value.now }
+{
+    is_address(name) && is_text(value, b"any")
+}
+
+fn is_address(name: &[u8]) -> bool
+    ensures { result ≡ is_address name.now }
+{
+    is_text(name, b"bindaddress") || is_text(name, b"bindaddress6")
+}
+
+// INN's default times, in seconds.
+fn is_default_time(name: &[u8], value: &[u8]) -> bool
+    ensures { result ≡ is_default_time name.now value.now }
+{
+    (is_ten_minutes(name) && is_text(value, b"600"))
+        || (is_text(name, b"backlog-rotate-period") && is_text(value, b"60"))
+        || (is_text(name, b"close-period") && is_text(value, b"86400"))
+}
+
+// Settings whose default is ten minutes.
+fn is_ten_minutes(name: &[u8]) -> bool
+    ensures { result ≡ is_ten_minutes name.now }
+{
+    is_text(name, b"article-timeout") || is_text(name, b"backlog-newfile-period")
+}
+
+// INN's defaults for how the number of connections grows.
+fn is_default_growth(name: &[u8], value: &[u8]) -> bool
+    ensures { result ≡ is_default_growth name.now value.now }
+{
+    (is_text(name, b"initial-connections") && is_text(value, b"1"))
+        || (is_text(name, b"dynamic-method") && is_text(value, b"3"))
+        || is_default_water(name, value)
+}
+
+// INN's defaults for the waters of a queue by which the number of connections grows.
+fn is_default_water(name: &[u8], value: &[u8]) -> bool
+    ensures { result ≡ is_default_water name.now value.now }
+{
+    (is_text(name, b"dynamic-backlog-low") && is_text(value, b"20.0"))
+        || (is_text(name, b"dynamic-backlog-high") && is_text(value, b"50.0"))
+        || (is_text(name, b"dynamic-backlog-filter") && is_text(value, b"0.7"))
 }
 
 // Settings by which a connection logs in.
@@ -152,13 +235,18 @@ fn is_house(name: &[u8]) -> bool
         || is_text(name, b"stdio-fdmax")
 }
 
+// Settings that say how often INN looks for backlog files while it runs.
+fn is_import(name: &[u8]) -> bool
+    ensures { result ≡ is_import name.now }
+{
+    is_text(name, b"backlog-rotate-period") || is_text(name, b"backlog-newfile-period")
+}
+
 // Settings that say when files and names are renewed, and what waits in memory.
 fn is_timing(name: &[u8]) -> bool
     ensures { result ≡ is_timing name.now }
 {
-    is_text(name, b"backlog-rotate-period")
-        || is_text(name, b"backlog-ckpt-period")
-        || is_text(name, b"backlog-newfile-period")
+    is_text(name, b"backlog-ckpt-period")
         || is_text(name, b"backlog-highwater")
         || is_text(name, b"host-queue-highwater")
         || is_text(name, b"initial-sleep")

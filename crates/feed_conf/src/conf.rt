@@ -13,6 +13,8 @@ pub struct Ignored {
     pub line: u64,
     /// The key, as written.
     pub key: Vec<u8>,
+    /// The value, as written; empty if there is none.
+    pub value: Vec<u8>,
     /// Whether the value was limited; if not, the use was ignored.
     pub limited: bool,
 }

@@ -2,13 +2,39 @@
 ghost use Rattle.std.specs.Prelude.{◌≡◌, ◌∷◌, ◌==◌, ◌<◌, [], List, ℕ, ◌≤◌, IfSome};
 ghost use Rattle.std.specs.Prelude.{MatchOption, codes, length, position};
 ghost use Rattle.std.specs.Str.{bytes_eq};
-ghost use Rattle.feed_conf.specs.Items.{sort_of, split_pair, word_items, items, items_of, PeerBegun, PeerNamed};
-ghost use Rattle.feed_conf.specs.Items.{GroupBegun, GroupNamed, KeyBegun};
+ghost use Rattle.feed_conf.specs.Items.{items, items_of, sort_of, split_pair, stop_kind, word_items};
+ghost use Rattle.feed_conf.specs.Items.{GroupBegun, GroupNamed, KeyBegun, PeerBegun, PeerNamed};
 ghost use Rattle.feed_conf.specs.Scan.{lexemes_of};
-ghost use Rattle.feed_conf.specs.ItemView.{item_view, sort_view};
+ghost use Rattle.feed_conf.specs.ItemView.{item_view, sort_view, stop_view};
 
 use crate::fault::ConfFaultKind;
 use crate::lexeme::{Lexeme, next_lexeme};
+
+/// Why a line cannot be read further.
+#[derive(Clone, Copy)]
+pub(crate) enum Stop<'t> {
+    /// A word, or a text in quotes, is no key, since no colon is in it.
+    NoColon(&'t [u8]),
+    /// `{` does not follow the name of this group.
+    NoBrace(&'t [u8]),
+    /// No name follows the word `group`.
+    NoName,
+    /// `{` without a name before it.
+    LoneBrace,
+    /// A quote without a second one on its line.
+    LoneQuote,
+}
+
+impl<'t> Stop<'t> {
+    pub(crate) fn kind(self) -> ConfFaultKind
+        ensures { result ≡ stop_kind (stop_view self.entry) }
+    {
+        match self {
+            Stop::NoColon(_) => ConfFaultKind::NoValue,
+            _ => ConfFaultKind::Unbalanced,
+        }
+    }
+}
 
 /// One thing that a line says.
 #[derive(Clone, Copy)]
@@ -21,7 +47,7 @@ pub(crate) enum Item<'t> {
     /// A key, and its value if it has one.
     Uses(&'t [u8], Option<&'t [u8]>),
     /// The line cannot be read further.
-    Stops(ConfFaultKind),
+    Stops(Stop<'t>),
 }
 
 // What a word is when a new item may begin.
@@ -31,7 +57,8 @@ enum Sort<'t> {
     GroupWord,
     // The text before the first colon and the text after it.
     Pair(&'t [u8], &'t [u8]),
-    Plain,
+    // A word without a colon.
+    Plain(&'t [u8]),
 }
 
 fn colon(word: &[u8]) -> Option<usize>
@@ -45,7 +72,7 @@ fn split_pair(word: &[u8]) -> Sort<'_>
     ensures { split_pair (position (λ octet. octet == 58) word.now) word.now ≡ sort_view result }
 {
     match colon(word) {
-        None => Sort::Plain,
+        None => Sort::Plain(word),
         Some(at) => {
             let key = word.split_at(at).0;
             let value = word.split_at(at + 1).1;
@@ -92,20 +119,20 @@ fn peer_begun(line: &[u8]) -> (Item<'_>, &[u8])
 {
     match next_lexeme(line) {
         Some((Lexeme::Word(name), rest)) => peer_named(name, rest),
-        Some((Lexeme::Unclosed, _)) => (Item::Stops(ConfFaultKind::Unbalanced), &[]),
+        Some((Lexeme::Unclosed, _)) => (Item::Stops(Stop::LoneQuote), &[]),
         _ => (Item::Peer(&[], false), &[]),
     }
 }
 
 // Reads on after the name of a group.
-fn group_named(line: &[u8]) -> (Item<'_>, &[u8])
-    ensures items { items (lexemes_of line.now) GroupNamed
+fn group_named<'t>(name: &'t [u8], line: &'t [u8]) -> (Item<'t>, &'t [u8])
+    ensures items { items (lexemes_of line.now) (GroupNamed name.now)
         ≡ item_view result.0 ∷ items_of result.1.now }
     ensures within { length result.1.now ≤ length line.now }
 {
     match next_lexeme(line) {
         Some((Lexeme::Open, rest)) => (Item::Group, rest),
-        _ => (Item::Stops(ConfFaultKind::Unbalanced), &[]),
+        _ => (Item::Stops(Stop::NoBrace(name)), &[]),
     }
 }
 
@@ -116,8 +143,8 @@ fn group_begun(line: &[u8]) -> (Item<'_>, &[u8])
     ensures within { length result.1.now ≤ length line.now }
 {
     match next_lexeme(line) {
-        Some((Lexeme::Word(_), rest)) => group_named(rest),
-        _ => (Item::Stops(ConfFaultKind::Unbalanced), &[]),
+        Some((Lexeme::Word(name), rest)) => group_named(name, rest),
+        _ => (Item::Stops(Stop::NoName), &[]),
     }
 }
 
@@ -130,7 +157,7 @@ fn key_begun<'t>(key: &'t [u8], line: &'t [u8]) -> (Item<'t>, &'t [u8])
     match next_lexeme(line) {
         Some((Lexeme::Word(value), rest)) => (Item::Uses(key, Some(value)), rest),
         Some((Lexeme::Quoted(value), rest)) => (Item::Uses(key, Some(value)), rest),
-        Some((Lexeme::Unclosed, _)) => (Item::Stops(ConfFaultKind::Unbalanced), &[]),
+        Some((Lexeme::Unclosed, _)) => (Item::Stops(Stop::LoneQuote), &[]),
         _ => (Item::Uses(key, None), line),
     }
 }
@@ -146,7 +173,7 @@ fn word_begun<'t>(word: &'t [u8], line: &'t [u8]) -> (Item<'t>, &'t [u8])
         Sort::GroupWord => group_begun(line),
         Sort::Pair(key, []) => key_begun(key, line),
         Sort::Pair(key, value) => (Item::Uses(key, Some(value)), line),
-        Sort::Plain => (Item::Stops(ConfFaultKind::NoValue), &[]),
+        Sort::Plain(word) => (Item::Stops(Stop::NoColon(word)), &[]),
     }
 }
 
@@ -159,9 +186,9 @@ pub(crate) fn next_item(line: &[u8]) -> Option<(Item<'_>, &[u8])>
     match next_lexeme(line) {
         None => None,
         Some((Lexeme::Word(word), rest)) => Some(word_begun(word, rest)),
-        Some((Lexeme::Quoted(_), _)) => Some((Item::Stops(ConfFaultKind::NoValue), &[])),
+        Some((Lexeme::Quoted(octets), _)) => Some((Item::Stops(Stop::NoColon(octets)), &[])),
         Some((Lexeme::Close, rest)) => Some((Item::Closes, rest)),
-        Some((Lexeme::Open, _)) => Some((Item::Stops(ConfFaultKind::Unbalanced), &[])),
-        Some((Lexeme::Unclosed, _)) => Some((Item::Stops(ConfFaultKind::Unbalanced), &[])),
+        Some((Lexeme::Open, _)) => Some((Item::Stops(Stop::LoneBrace), &[])),
+        Some((Lexeme::Unclosed, _)) => Some((Item::Stops(Stop::LoneQuote), &[])),
     }
 }

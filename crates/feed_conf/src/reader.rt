@@ -172,16 +172,28 @@ impl<'t> Reader<'t> {
     }
 
     // Keeps a use that was ignored or limited, for the log.
-    fn report(mut self, line: u64, key: &[u8], limited: bool) -> Result<Self, ConfFaultKind>
+    fn report(
+        mut self,
+        line: u64,
+        key: &[u8],
+        value: &[u8],
+        limited: bool,
+    ) -> Result<Self, ConfFaultKind>
         ensures state { MatchResult result
-            (λ r. reader_view r ≡ report (reader_view self.entry) line key.now limited)
+            (λ r. reader_view r ≡ report (reader_view self.entry) line key.now value.now limited)
             (λ kind. kind ≡ NoMemory) }
         ensures keeps_names { IfOk result
             (λ r. (r.names ≡ self.entry.names) × (r.peers ≡ self.entry.peers)) }
         ensures opened { IfOk result (λ r. r.opened ≡ self.entry.opened) }
     {
         let key = Vec::from_slice(self.alloc, key)?;
-        self.ignored.push(Ignored { line, key, limited })?;
+        let value = Vec::from_slice(self.alloc, value)?;
+        self.ignored.push(Ignored {
+            line,
+            key,
+            value,
+            limited,
+        })?;
         Ok(self)
     }
 
@@ -234,10 +246,11 @@ impl<'t> Reader<'t> {
         mut self,
         line: u64,
         name: &'t [u8],
+        value: &'t [u8],
         key: SettingKey,
         taken: Taken<'t>,
     ) -> Result<Self, ConfFaultKind>
-        ensures state { Steps (use_taken (reader_view self.entry) line name.now key
+        ensures state { Steps (use_taken (reader_view self.entry) line name.now value.now key
             (Ok (taken_view taken.entry))) result }
         ensures keeps_names { IfOk result
             (λ r. (r.names ≡ self.entry.names) × (r.peers ≡ self.entry.peers)) }
@@ -250,7 +263,7 @@ impl<'t> Reader<'t> {
             value: taken.value,
         })?;
         if taken.limited {
-            self.report(line, name, true)
+            self.report(line, name, value, true)
         } else {
             Ok(self)
         }
@@ -273,7 +286,7 @@ impl<'t> Reader<'t> {
         match value {
             None => Err(ConfFaultKind::NoValue),
             Some(value) => match take_value(key.kind(), value) {
-                Ok(taken) => self.put(line, name, key, taken),
+                Ok(taken) => self.put(line, name, value, key, taken),
                 Err(kind) => Err(kind),
             },
         }
@@ -292,11 +305,11 @@ impl<'t> Reader<'t> {
         ensures opened { IfOk result (λ r. r.opened ≡ self.entry.opened) }
     {
         match find_key(name) {
-            None => self.report(line, name, false),
+            None => self.report(line, name, value.unwrap_or(&[]), false),
             Some(key) => {
                 let is_ignored = key.is_of_file() && self.is_in_block();
                 if is_ignored {
-                    self.report(line, name, false)
+                    self.report(line, name, value.unwrap_or(&[]), false)
                 } else {
                     self.use_value(line, name, key, value)
                 }
@@ -320,7 +333,7 @@ impl<'t> Reader<'t> {
             Item::Group => self.open_group(line),
             Item::Closes => self.close(),
             Item::Uses(name, value) => self.use_key(line, name, value),
-            Item::Stops(kind) => Err(kind),
+            Item::Stops(stop) => Err(stop.kind()),
         }
     }
 }

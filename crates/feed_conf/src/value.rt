@@ -121,7 +121,7 @@ fn spells_true(octets: &[u8]) -> bool
     spells(octets, b"true") || spells(octets, b"yes") || spells(octets, b"on")
 }
 
-fn spells_false(octets: &[u8]) -> bool
+pub(crate) fn spells_false(octets: &[u8]) -> bool
     ensures { result ≡ spells_false octets.now }
 {
     spells(octets, b"false") || spells(octets, b"no") || spells(octets, b"off")
