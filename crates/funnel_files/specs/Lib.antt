@@ -1,4 +1,5 @@
 pub mod Due
+pub mod EndPace
 pub mod Funnel
 pub mod Held
 pub mod Lines
