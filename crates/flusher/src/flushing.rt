@@ -30,7 +30,7 @@ impl<D: Disk, N: Naming> Post<D, N> {
     pub fn flush_all<P: Pace, R: Wait>(&self, rt: &R, pace: &P) -> Result<Receipt, PostFault>
         ensures kinds { IfErr result (IsFlushAllFault (length self.now.names)) }
     {
-        let mut sealing = Sealing::begin(&self.last);
+        let mut sealing = Sealing::begin(*self.last.lock(rt));
         for peer in 0..self.peers() {
             self.flush_next(rt, pace, peer, &mut sealing)?;
             pace.turn(Who::Flusher, Place::AfterFlush);
@@ -62,7 +62,8 @@ impl<D: Disk, N: Naming> Post<D, N> {
     // What is due at a peer for this receipt.
     fn due<R: Wait>(&self, rt: &R, peer: usize, sealing: &Sealing) -> Result<Due, PostFault>
         requires { peer < length self.now.names }
-        ensures due { IfOk result (λ due. due.place ≡ peer) }
+        ensures due { IfOk result
+            (λ due. (due.number ≡ sealing.now.number) × (due.place ≡ peer)) }
         ensures kinds { IfErr result (λ e. e ≡ PostFault.Stranger peer) }
     {
         let desk = self.peers[peer].front.lock(rt);

@@ -21,6 +21,7 @@ use crate::naming::{
 };
 use crate::peer::{PostPeer, Sums, counted_at};
 use crate::read_ahead::ReadAhead;
+use crate::sealing::TakenLine;
 use crate::share::{FeederShare, IntakeShare};
 use crate::tally::{Books, Tally, UncutLedger};
 use crate::tape_desk::TapeDesk;
@@ -73,9 +74,9 @@ pub struct Post<D: Disk, N: Naming> {
     pub(crate) alloc: Global,
     pub(crate) peers: Vec<PeerDesk<D, N>>,
     pub(crate) intake: Mutex<Intake<D>>,
-    // The number of the last line taken by every station it names, as in the intake's share. The intake alone writes
-    // it; the flusher reads it before it flushes the stations.
-    pub(crate) last: AtomicU64,
+    // The last line taken by every station it names, as in the intake's share. The intake alone writes it; the flusher
+    // reads it before it flushes the stations.
+    pub(crate) last: Mutex<TakenLine>,
     // The tally of what was taken. The intake alone counts there, and waits for no feeder to do so.
     pub(crate) taken: Mutex<Books<TakenByIntake<N>, TakenAtStations<N>>>,
     // The tally of what has ended.
@@ -236,7 +237,7 @@ impl<D: Disk + Drop, N: Naming> Post<D, N> {
         ensures nothing { IfOk result
             (λ r. (r.1.taken ≡ 0) × IsUnused r.2 × IsUnused r.3 × IsUnused r.4) }
     {
-        let last = intake.mark();
+        let last = TakenLine::acknowledged(&intake);
         let mut made = Vec::new(alloc);
         made.reserve(peers.len())?;
         let mut marks = Vec::new(alloc);
@@ -291,7 +292,7 @@ impl<D: Disk + Drop, N: Naming> Post<D, N> {
             alloc,
             peers: made,
             intake: Mutex::new(Intake { tape: intake }),
-            last: AtomicU64::new(last),
+            last: Mutex::new(last),
             taken: Mutex::new(taken_at.close(taken)),
             ended: Mutex::new(ended),
         };
@@ -300,7 +301,7 @@ impl<D: Disk + Drop, N: Naming> Post<D, N> {
             IntakeShare {
                 taken: mine,
                 marks,
-                last,
+                last: last.number(),
             },
             first,
             second,

@@ -1,13 +1,15 @@
 // How a receipt is made.
-ghost use Rattle.std.specs.Prelude.{◌≡◌, ◌+◌, ◌<◌, ◌≤◌, ◌^◌, length};
+ghost use Rattle.std.specs.Prelude.{◌≡◌, ◌+◌, ◌<◌, ◌≤◌, ◌^◌, ℕ, List, length};
+ghost use Rattle.flusher.specs.Marks.{IsRaised};
 ghost use Rattle.flusher.specs.Sealed.{HasSettled, IsSealed, noted_at};
 ghost use Rattle.note_queue.specs.Words.{front_of};
+ghost use Rattle.recovery.specs.Words.{ledger_of};
 
 use crate::front_desk::FrontDesk;
 use crate::post::Intake;
 use crate::{Naming, Post};
 use disk_model::Disk;
-use std::sync::atomic::{AtomicU64, Ordering};
+use recovery::Tape;
 
 /// All lines up to this number are acknowledged. `Post::flush_all` alone makes one.
 #[derive(Clone, Copy, Debug, PartialEq, Eq)]
@@ -23,6 +25,48 @@ impl Receipt {
     }
 }
 
+// The number of a line that all peers that it names have taken, or took before; or that up to which all lines are
+// acknowledged. So the last one that is shown is a number that a receipt may have, once all is flushed that was noted
+// before it was read.
+#[derive(Clone, Copy)]
+pub(crate) struct TakenLine {
+    number: u64,
+}
+
+impl TakenLine {
+    // That up to which all lines are acknowledged on the intake's tape.
+    pub(crate) fn acknowledged<D: Disk>(intake: &Tape<D>) -> TakenLine
+        ensures { result.number ≡ (ledger_of intake.now).mark }
+    {
+        TakenLine {
+            number: intake.mark(),
+        }
+    }
+
+    // That of a line that has raised the marks, in the intake's share, of all peers that it names.
+    pub(crate) fn raised<D: Disk, N: Naming>(
+        post: &Post<D, N>,
+        number: u64,
+        line: &[u8],
+        marks: &[u64],
+    ) -> TakenLine
+        requires { (before : List ℕ)
+            × IsRaised number line.now post.now.names before marks.now }
+        ensures { result.number ≡ number }
+    {
+        let _ = post;
+        let _ = line;
+        let _ = marks;
+        TakenLine { number }
+    }
+
+    pub(crate) fn number(self) -> u64
+        ensures { result ≡ self.number }
+    {
+        self.number
+    }
+}
+
 // A receipt that is being made: the number of the last line that was taken before the first flush, and how many
 // stations have been flushed since, in the order of the peers.
 #[derive(Drop)]
@@ -31,9 +75,10 @@ pub(crate) struct Sealing {
     flushed: usize,
 }
 
-// What is to be settled at a place for a receipt: all that had been noted there when its part began.
+// What is to be settled at a place for the receipt of a number: all that had been noted there when its part began.
 #[derive(Clone, Copy)]
 pub(crate) struct Due {
+    number: u64,
     place: usize,
     count: u64,
 }
@@ -75,12 +120,12 @@ impl Settlement {
 }
 
 impl Sealing {
-    // Reads the number of the last line that was taken. No station has been flushed since.
-    pub(crate) fn begin(last: &AtomicU64) -> Sealing
-        ensures { result.flushed ≡ 0 }
+    // Begins with the last line that was taken. No station has been flushed since.
+    pub(crate) fn begin(last: TakenLine) -> Sealing
+        ensures { (result.number ≡ last.number) × (result.flushed ≡ 0) }
     {
         Sealing {
-            number: last.load(Ordering::SeqCst),
+            number: last.number(),
             flushed: 0,
         }
     }
@@ -94,18 +139,19 @@ impl Sealing {
 
     // What has been noted at a front that is locked, after the number was read.
     pub(crate) fn due<N: Naming>(&self, desk: &FrontDesk<N>) -> Due
-        ensures { (result.place ≡ desk.now.seat.place)
+        ensures { (result.number ≡ self.now.number) × (result.place ≡ desk.now.seat.place)
             × (result.count ≡ noted_at (front_of desk.now.seat.sender)) }
     {
         Due {
+            number: self.number(),
             place: desk.seat.place,
             count: desk.noted(),
         }
     }
 
-    // Counts the peer that comes next, at which all is settled that was due.
+    // Counts the peer that comes next, at which all is settled that was due for this receipt.
     pub(crate) fn add(&mut self, due: Due, settlement: Settlement)
-        requires next { due.place ≡ self.old.flushed }
+        requires next { (due.number ≡ self.old.number) × (due.place ≡ self.old.flushed) }
         requires settled { (settlement.place ≡ due.place) × (due.count ≤ settlement.count) }
         requires room { due.place + 1 < 2 ^ 64 }
         ensures flushed { self.new.flushed ≡ self.old.flushed + 1 }

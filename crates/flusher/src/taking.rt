@@ -14,13 +14,13 @@ ghost use Rattle.peer_queue.specs.Front.{IsSame};
 use crate::fault::TakeFault;
 use crate::front_desk::FrontDesk;
 use crate::naming::{TakenAtStations, TakenByIntake};
+use crate::sealing::TakenLine;
 use crate::share::IntakeShare;
 use crate::tally::Books;
 use crate::{Naming, Post, PostFault};
 use disk_model::Disk;
 use funnel::{FunnelLine, LineFault, read_line};
 use std::sync::Wait;
-use std::sync::atomic::Ordering;
 use std::sync::ledger::Share;
 
 impl<D: Disk, N: Naming> Post<D, N> {
@@ -51,12 +51,38 @@ impl<D: Disk, N: Naming> Post<D, N> {
         let Some(number) = share.last.checked_add(1) else {
             return Err(PostFault::CountFull);
         };
-        let shared_last = &self.last;
+        let shown = &self.last;
         let IntakeShare { taken, marks, last } = share;
-        self.take_read(rt, number, line, taken, marks)?;
+        let line = self.take_whole(rt, number, line, taken, marks)?;
         *last = number;
-        shared_last.store(number, Ordering::SeqCst);
+        *shown.lock(rt) = line;
         Ok(number)
+    }
+
+    // Takes a line of this number at each station whose peer it names. Once it is shown, receipts may have its number.
+    #[tactic(auto, using(crate::proofs::Rises::rises_same))]
+    fn take_whole<R: Wait>(
+        &self,
+        rt: &R,
+        number: u64,
+        line: &[u8],
+        taken: &mut Share<TakenByIntake<N>>,
+        marks: &mut Vec<u64>,
+    ) -> Result<TakenLine, PostFault>
+        requires marks { length marks.old.items ≡ length self.now.names }
+        requires part { taken.old.parts ≡ 1 }
+        ensures number { IfOk result (λ taken. taken.number ≡ number) }
+        ensures marks { length marks.new.items ≡ length marks.old.items }
+        ensures raised { OnOk result
+            (IsRaised number line.now self.now.names marks.old.items marks.new.items) }
+        ensures counted { taken.new.amount ≡ taken.old.amount
+            + rises marks.old.items marks.new.items }
+        ensures refuses { IfErr result (λ fault. RefusesLine number line.now self.now.names fault
+            marks.old.items marks.new.items) }
+        ensures part { taken.new.parts ≡ 1 }
+    {
+        self.take_read(rt, number, line, taken, marks)?;
+        Ok(TakenLine::raised(self, number, line, marks))
     }
 
     // Takes a line of this number at each station whose peer it names.

@@ -7,5 +7,5 @@ pub returns-clause-raised : goal.returns-clause-raised
 returns-clause-raised g c =
     let was = ap (λ (s : IntakeCount). s.marks) c.share.view_is in
     subst
-    (λ (m : List ℕ). IsRaised c.in-Some.number c.args.line.now c.args.self.now.names m c.take_read.new.marks.items) was
-    c.in_ok-take_read.ensures.raised
+    (λ (m : List ℕ). IsRaised c.in-Some.number c.args.line.now c.args.self.now.names m c.take_whole.new.marks.items) was
+    c.in_ok-line.ensures.raised
