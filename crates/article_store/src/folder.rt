@@ -10,7 +10,7 @@ ghost use Rattle.article_store.specs.Reads.{ConsumesAtMost, IsReadAs, answer_to}
 use crate::store::{Articles, Found, SpoolDirectory, StoreFault};
 use crate::unsendable::{Unsendable, unsendable_cause};
 use bytes::Bytes;
-use funnel::Token;
+use funnel::{MsgId, Token};
 use std::alloc::{AllocError, Global};
 use std::fs::{self, File};
 use std::io::{self, ErrorKind, Read};
@@ -106,6 +106,13 @@ impl<F: Files + Drop> Articles for Folder<F> {
 }
 
 impl<F: Files + Drop> SpoolDirectory for Folder<F> {
+    /// The article in the token's file, whatever message-id it has: a token names one article for good.
+    fn fetch_for(&mut self, token: &Token, _id: &MsgId) -> Result<Found, StoreFault>
+        ensures sendable { IfOk result IsFound }
+    {
+        self.fetch(token)
+    }
+
     fn is_there(&self) -> bool {
         fs::metadata(&self.files, self.root.as_str()).is_ok_and(|there| there.is_dir())
     }

@@ -4,7 +4,7 @@ ghost use Rattle.article_store.specs.Finds.{IsFound, IsSaidBy};
 
 use crate::unsendable::Unsendable;
 use bytes::Bytes;
-use funnel::Token;
+use funnel::{MsgId, Token};
 use std::alloc::AllocError;
 use std::io;
 use thiserror::Error;
@@ -62,6 +62,14 @@ pub trait Articles {
 
 /// A store whose articles lie below a directory that may itself be missing, as when a file system is not mounted.
 pub trait SpoolDirectory: Articles {
+    /// The article of this token with this message-id. A store whose tokens may come to name other articles, as those
+    /// of a buffer that is written in cycles do, hands out none with another id.
+    ///
+    /// # Errors
+    /// Those of [`Articles::fetch`].
+    fn fetch_for(&mut self, token: &Token, id: &MsgId) -> Result<Found, StoreFault>
+        ensures sendable { IfOk result IsFound };
+
     /// Whether that directory is there. If it is not, `Gone` says nothing about an article.
     fn is_there(&self) -> bool;
 

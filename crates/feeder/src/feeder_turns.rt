@@ -201,7 +201,7 @@ impl<S: SpoolDirectory + Drop, C: Net + Drop, N: Naming> Feeder<S, C, N> {
         }
         let deferred = connection.take_deferred();
         if let Some(slot) = self.slots.get(connection.slot()) {
-            log_deferred(rt, name_of(&self.peers, slot.target()), deferred);
+            log_deferred(rt, name_of(&self.peers, slot.target()), &deferred);
         }
     }
 
@@ -388,7 +388,7 @@ impl<S: SpoolDirectory + Drop, C: Net + Drop, N: Naming> Feeder<S, C, N> {
         self.checks_slots = true;
         if let Some(slot) = self.slots.get(connection.slot()) {
             let name = name_of(&self.peers, slot.target());
-            log_deferred(rt, name, connection.take_deferred());
+            log_deferred(rt, name, &connection.take_deferred());
             log_over(rt, name, &connection);
         }
         self.note_over(rt, view.now, &connection);

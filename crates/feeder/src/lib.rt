@@ -12,6 +12,8 @@
 mod blame;
 mod close_reason;
 mod connecting;
+mod debt_texts;
+mod deferrals;
 mod descriptors;
 mod drop_count;
 mod fault;

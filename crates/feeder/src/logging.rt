@@ -1,5 +1,6 @@
 // What a feeder logs of its connections.
 use crate::close_reason::CloseReason;
+use crate::deferrals::Deferrals;
 use crate::descriptors::{LackedBy, lack_of};
 use crate::drop_count::{DropCount, DroppedArticle, PeerDrops};
 use crate::peer_connection::PeerConnection;
@@ -138,31 +139,41 @@ pub(crate) fn log_given_up<R: Log>(rt: &R, name: &str) {
     info!(rt; "{}: given up for this run: its connections failed", name);
 }
 
-/// A peer deferred this number of articles. Nothing is logged if it is 0.
-pub(crate) fn log_deferred<R: Log>(rt: &R, name: &str, count: u64) {
-    if count > 0 {
-        info!(rt; "{}: deferred {} articles", name, count);
+/// A peer deferred these articles: a line with their number and the first of them. Nothing is logged if there is none.
+pub(crate) fn log_deferred<R: Log>(rt: &R, name: &str, deferred: &Deferrals) {
+    match (&deferred.first, deferred.count) {
+        (_, 0) => {}
+        (None, count) => info!(rt; "{}: deferred {} articles", name, count),
+        (Some((token, id)), 1) => {
+            info!(rt; "{}: deferred 1 article: {} {}", name, token_text(token), id_text(id))
+        }
+        (Some((token, id)), count) => {
+            let (token, id) = (token_text(token), id_text(id));
+            info!(rt; "{}: deferred {} articles, the first {} {}", name, count, token, id)
+        }
     }
 }
 
-/// The article under a token is missing, and put off.
-pub(crate) fn log_kept<R: Log>(rt: &R, token: &Token) {
-    info!(rt; "article {}: not found in the spool; put off", token_text(token));
+/// This article is missing, and put off at this peer.
+pub(crate) fn log_kept<R: Log>(rt: &R, name: &str, token: &Token, id: &MsgId) {
+    let (token, id) = (token_text(token), id_text(id));
+    info!(rt; "{}: {} {}: not found in the spool; put off", name, token, id);
 }
 
-/// An article that was missing was dropped.
-pub(crate) fn log_missing<R: Log>(rt: &R, article: &DroppedArticle) {
-    info!(rt; "article {}: not found in the spool; dropped", token_text(&article.token));
+/// An article that was missing was dropped for this peer.
+pub(crate) fn log_missing<R: Log>(rt: &R, name: &str, article: &DroppedArticle) {
+    let (token, id) = (token_text(&article.token), id_text(&article.id));
+    info!(rt; "{}: {} {}: not found in the spool; dropped", name, token, id);
 }
 
-/// An article that cannot be sent was dropped.
-pub(crate) fn log_unsendable<R: Log>(rt: &R, article: &DroppedArticle) {
-    let token = token_text(&article.token);
+/// An article that cannot be sent was dropped for this peer.
+pub(crate) fn log_unsendable<R: Log>(rt: &R, name: &str, article: &DroppedArticle) {
+    let (token, id) = (token_text(&article.token), id_text(&article.id));
     match article.fault {
         Some(fault) => {
-            info!(rt; "article {}: cannot be sent ({}); dropped", token, words_of(fault))
+            info!(rt; "{}: {} {}: cannot be sent ({}); dropped", name, token, id, words_of(fault))
         }
-        None => info!(rt; "article {}: cannot be sent; dropped", token),
+        None => info!(rt; "{}: {} {}: cannot be sent; dropped", name, token, id),
     }
 }
 

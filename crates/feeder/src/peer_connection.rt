@@ -4,6 +4,7 @@ ghost use Rattle.std.specs.Prelude.{◌≡◌, ◌<◌, ◌≤◌, ◌/◌};
 use crate::Spool;
 use crate::blame::{Blame, ConnectionEnd};
 use crate::close_reason::{CloseReason, ObservedEnd, SessionStage, begins_with_code};
+use crate::deferrals::Deferrals;
 use crate::descriptors::unread_article;
 use crate::last_stage::failed_until;
 use crate::line_head::LineHead;
@@ -95,8 +96,8 @@ pub(crate) struct PeerConnection {
     held: u64,
     // An outcome that the station could not take yet. It goes before all others.
     kept: Option<Outcome>,
-    // How many debts its peer deferred since `take_deferred`.
-    deferred: u64,
+    // What its peer deferred since `take_deferred`.
+    deferred: Deferrals,
     // Since which second it has held nothing, once its peer has agreed to a mode.
     idle_since: Option<u64>,
 }
@@ -132,7 +133,7 @@ impl PeerConnection {
             is_blocked: false,
             held: 0,
             kept: None,
-            deferred: 0,
+            deferred: Deferrals::new(),
             idle_since: None,
         }
     }
@@ -165,11 +166,9 @@ impl PeerConnection {
         self.failure.as_ref()
     }
 
-    /// How many debts its peer has deferred since the last call.
-    pub fn take_deferred(&mut self) -> u64 {
-        let deferred = self.deferred;
-        self.deferred = 0;
-        deferred
+    /// What its peer has deferred since the last call.
+    pub fn take_deferred(&mut self) -> Deferrals {
+        mem::replace(&mut self.deferred, Deferrals::new())
     }
 
     /// Whether its peer's host accepted it.
@@ -428,7 +427,7 @@ impl PeerConnection {
         }
         let outcome = self.conn.outcome()?;
         match outcome {
-            Outcome::Deferred(_) => self.deferred = self.deferred.saturating_add(1),
+            Outcome::Deferred(ref deferral) => self.deferred.add(deferral.debt()),
             Outcome::Lost(_, _) => self.is_dirty = true,
             Outcome::Final(_) | Outcome::Back(_) => {}
         }
@@ -567,7 +566,7 @@ impl PeerConnection {
             return HandInResult::None;
         };
         let key = debt.key();
-        match spool.store.fetch(debt.token()) {
+        match spool.store.fetch_for(debt.token(), debt.id()) {
             Ok(Found::Gone) if !spool.store.is_there() => {
                 let _ = unread.add(self.alloc, &spool.path, None);
                 return self.break_for_spool(ObservedEnd::NoSpool);

@@ -1,6 +1,6 @@
 // Servicing one connection: what came is taken in, what became of debts goes to the station, and more is sent.
-ghost use Rattle.std.specs.Prelude.{◌≡◌, IfOk};
 
+use crate::debt_texts::texts_of;
 use crate::drop_count::DroppedArticle;
 use crate::last_stage::{ClaimStep, claim_step, stage_moment};
 use crate::logging::{log_kept, log_missing, log_postponed, log_suspect, log_unsendable, text_of};
@@ -19,7 +19,6 @@ use funnel::{MsgId, Token};
 use ledger_core::{Cause, Debt, Key};
 use log::Log;
 use peer_queue::key_in;
-use std::alloc::AllocError;
 use std::sync::Wait;
 
 // How often one service fills and sends the output, before other connections have their turn.
@@ -113,7 +112,7 @@ fn settle_one<D: Disk, N: Naming, S, R: Wait + Log, P: Pace>(
     let postponed = judge(connection, rt, view.now, env, &outcome);
     match step_of(outcome, postponed, env.tally.has_found(), env.drops_missing) {
         Step::PutOff { debt, until } => put_off(connection, rt, view, env.peer, debt, until),
-        Step::Keep(debt) => keep(connection, rt, view, env.tally, debt),
+        Step::Keep(debt) => keep(connection, rt, view, env, debt),
         Step::Finish(Outcome::Lost(debt, cause)) => {
             let key = debt.key();
             lose(connection, rt, view, env, debt, cause)?;
@@ -183,31 +182,25 @@ fn lose<D: Disk, N: Naming, S, R: Wait + Log, P: Pace>(
         Err(_) => None,
     };
     if let Some(article) = &article {
+        let name = text_of(&env.peer.target.name);
         match cause {
-            Cause::Missing => log_missing(rt, article),
-            _ => log_unsendable(rt, article),
+            Cause::Missing => log_missing(rt, name, article),
+            _ => log_unsendable(rt, name, article),
         }
     }
     env.tally.add_drop(rt, connection.peer(), cause, article);
     Ok(())
 }
 
-// A copy of a debt's token and message-id.
-fn texts_of(debt: &Debt) -> Result<(Token, MsgId), AllocError>
-    ensures { IfOk result (λ texts. (texts.0 ≡ debt.now.1.0) × (texts.1 ≡ debt.now.1.1)) }
-{
-    Ok((debt.token().clone()?, debt.id().clone()?))
-}
-
 // Puts off a debt whose article is missing and kept.
-fn keep<D: Disk, N: Naming, R: Wait + Log, P: Pace>(
+fn keep<D: Disk, N: Naming, S, R: Wait + Log, P: Pace>(
     connection: &PeerConnection,
     rt: &R,
     view: &PostView<'_, D, N, P>,
-    tally: &SpoolTally,
+    env: &ServiceEnv<'_, S, N>,
     debt: Debt,
 ) -> Result<(), (Outcome, FeederFault)> {
-    let token: Result<Token, AllocError> = debt.token().clone();
+    let texts = texts_of(&debt);
     match view.put_off(
         rt,
         connection.peer(),
@@ -216,9 +209,9 @@ fn keep<D: Disk, N: Naming, R: Wait + Log, P: Pace>(
         view.kept_until,
     ) {
         Ok(()) => {
-            if let Ok(token) = token {
-                log_kept(rt, &token);
-                tally.add_missing(rt, &token);
+            if let Ok((token, id)) = texts {
+                log_kept(rt, text_of(&env.peer.target.name), &token, &id);
+                env.tally.add_missing(rt, &token);
             }
             Ok(())
         }
@@ -255,10 +248,10 @@ fn log_put_off<R: Log>(
     token: &Token,
     id: &MsgId,
 ) {
+    let name = text_of(&peer.target.name);
     if connection.is_without_spool() {
-        log_kept(rt, token);
+        log_kept(rt, name, token, id);
     } else {
-        let name = text_of(&peer.target.name);
         log_postponed(rt, name, token, id, connection.close_reason());
     }
 }
