@@ -1,0 +1,52 @@
+// The settings of the file, and its peers.
+ghost use Rattle.std.specs.Prelude.{◌≡◌, ◌++◌, IfOk, OnOk, flat_map, map};
+ghost use Rattle.conf_text.specs.ConfText.{conf_text, file_text, peer_text};
+ghost use Rattle.feed_conf.specs.ConfView.{conf_view};
+ghost use Rattle.feed_conf.specs.PeerView.{settings_view};
+
+use crate::line::{add_number, add_text};
+use crate::peer::add_peer;
+use feed_conf::{Conf, PeerConf};
+use std::alloc::{AllocError, Global};
+
+/// The text of a configuration with all its settings in force: first those of the file, then each peer's, in the order
+/// of their declarations. Defaults are filled in, and limits are applied.
+///
+/// # Errors
+/// Memory was refused.
+pub fn conf_text(alloc: Global, conf: &Conf) -> Result<Vec<u8>, AllocError>
+    ensures { IfOk result (λ text. text.items ≡ conf_text (conf_view conf.now)) }
+{
+    let mut text = Vec::new(alloc);
+    add_file(&mut text, conf)?;
+    add_peers(&mut text, conf.peers())?;
+    Ok(text)
+}
+
+fn add_file(out: &mut Vec<u8>, conf: &Conf) -> Result<(), AllocError>
+    ensures { OnOk result (out.new.items ≡ out.old.items ++ file_text (conf_view conf.now)) }
+{
+    add_text(out, b"", b"news-spool", conf.news_spool())?;
+    add_text(out, b"", b"backlog-directory", conf.backlog_directory())?;
+    add_text(out, b"", b"status-file", conf.status_file())?;
+    add_number(out, b"", b"unknown-limit", conf.unknown_limit())?;
+    Ok(())
+}
+
+fn add_peers(out: &mut Vec<u8>, peers: &[PeerConf]) -> Result<(), AllocError>
+    ensures { OnOk result (out.new.items
+        ≡ out.old.items ++ flat_map peer_text (map settings_view peers.now)) }
+{
+    add_each(out, peers)?;
+    Ok(())
+}
+
+fn add_each(out: &mut Vec<u8>, peers: &[PeerConf]) -> Result<(), AllocError>
+    ensures { OnOk result (out.new.items
+        ≡ out.old.items ++ flat_map (λ peer. peer_text (settings_view peer)) peers.now) }
+{
+    for peer in peers {
+        add_peer(out, peer)?;
+    }
+    Ok(())
+}
