@@ -29,6 +29,16 @@ stale() {
   [ -n "$(find "${folders[@]}" -newer "$program" -print -quit 2>/dev/null)" ]
 }
 
+# note_commit PROGRAM: writes the commit that the program was made from into PROGRAM.commit, which `innfeed -V` reads;
+# none if files of the tree differ from it, or if there is no git.
+note_commit() {
+  local commit
+  rm -f "$1.commit"
+  git -C "$top" diff --quiet HEAD -- 2>/dev/null || return 0
+  commit=$(git -C "$top" rev-parse --short=12 HEAD 2>/dev/null) || return 0
+  printf '%s\n' "$commit" >"$1.commit"
+}
+
 # build NAME: builds and proves the program if it is stale, and reports each crate that was proved for it on standard
 # error. Nothing is printed if nothing is built. The status is 70 if it can't be built.
 build() {
@@ -38,5 +48,6 @@ build() {
   echo "$1: building and proving the program first, which can take two hours from nothing" >&2
   "$top/tools/prove" "$1" || { echo "$1: the program could not be built" >&2; return 70; }
   printf '%s\n' "$lines" >"$program.lines"
+  note_commit "$program"
   touch -d "@$began" "$program" # what is changed from here on is newer
 }

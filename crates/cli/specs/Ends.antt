@@ -18,13 +18,16 @@ use Rattle.cli.specs.Exit.{exit_of}
 use Rattle.cli.specs.Feed.{exit_of_end}
 use Rattle.cli.specs.Feeding.{Feeding}
 use Rattle.cli.specs.FeedLines.{end_text}
-use Rattle.cli.specs.Lines.{config_text, refusal_text, no_tape_text, unread_text, input_text, output_text}
-use Rattle.cli.specs.Lines.{mistake_text}
+use Rattle.cli.specs.Lines.{config_text, refusal_text, no_tape_text, unread_lines, input_text, output_text}
+use Rattle.cli.specs.Lines.{mistake_text, stranger_text}
+use Rattle.cli.specs.Strangers.{stranger_of}
+use Rattle.conf_text.specs.ConfText.{conf_text}
 use Rattle.cli.specs.declared.exit.Exit.{Exit}
 use Rattle.cli.specs.declared.exit.Exit.TheVariants.{Done, Refused, Usage, Unreadable, NoMemory}
 use Rattle.feed_ends.specs.declared.feed_end.FeedEnd.{FeedEnd}
 use Rattle.cli.specs.declared.order.Order.{Order}
-use Rattle.cli.specs.declared.order.Order.TheVariants.{DrillFromInput, Drill, Check, Owed, Feed, Print, Mistake}
+use Rattle.cli.specs.declared.order.Order.TheVariants.{DrillFromInput, Drill, Check, PrintConf, Owed, Feed}
+use Rattle.cli.specs.declared.order.Order.TheVariants.{Print, Mistake}
 
 -- what a configuration's text means: its settings, or its first fault
 abbrev pub Means : List ℕ → Result Outcome ConfFault → Type 0
@@ -44,7 +47,8 @@ LosesInput exit line = (exit ≡ Unreadable) × ((reason : List ℕ) × (line �
 
 -- the file at a path cannot be read
 abbrev pub MissesFile : (Option (List ℕ) → Type 0) → List ℕ → Exit → Option (List ℕ) → Type 0
-MissesFile says path exit line = says None × (exit ≡ Unreadable) × (line ≡ Some (unread_text path))
+MissesFile says path exit line = says None × (exit ≡ Unreadable)
+    × ((reason : List ℕ) × (line ≡ Some (unread_lines path reason)))
 
 -- a text was printed, and this on standard error; or it could not be printed
 abbrev pub PrintsBeside : (said : Option (List ℕ)) → List ℕ →
@@ -75,12 +79,24 @@ Runs text source old new exit line =
     ⊎ LosesOutput exit line
     ⊎ LacksMemory exit line
 
--- A configuration has settings, and standard output gets their report; with -v standard error gets what that means.
-abbrev pub Passes : (verbose : Bool) → (path text : List ℕ) →
-    Option (List ℕ) → Option (List ℕ) → Exit → Option (List ℕ) → Type 0
-Passes verbose path text old new exit line =
+-- What is printed of a configuration's settings: a text on standard output, and perhaps lines on standard error.
+pub record Shown : Type 0 where
+  pub on_output : Outcome → List ℕ
+  pub on_error : Outcome → Option (List ℕ)
+
+-- their report, and with -v what that means for the feed
+abbrev pub reported : (verbose : Bool) → (path : List ℕ) → Shown
+reported verbose path = record { on_output = check_text; on_error = λ outcome. advice_line verbose path outcome }
+
+-- the settings in force
+abbrev pub in_force : Shown
+in_force = record { on_output = conf_text; on_error = λ outcome. None }
+
+-- A configuration has settings, and this is printed of them.
+abbrev pub Passes : Shown → (text : List ℕ) → Option (List ℕ) → Option (List ℕ) → Exit → Option (List ℕ) → Type 0
+Passes shown text old new exit line =
     (outcome : Outcome) × Means text (Ok outcome)
-    × PrintsBeside (advice_line verbose path outcome) (check_text outcome) old new exit line
+    × PrintsBeside (shown.on_error outcome) (shown.on_output outcome) old new exit line
 
 -- A configuration has a fault, which is the line on standard error; with -v it is explained there.
 abbrev pub Refuses : (verbose : Bool) → (path text : List ℕ) → Exit → Option (List ℕ) → Type 0
@@ -88,11 +104,11 @@ Refuses verbose path text exit line =
     (fault : ConfFault) × Means text (Err fault) × (exit ≡ Refused)
     × (line ≡ Some (config_text fault ++ more_text verbose path text fault))
 
--- A check of the configuration in a file.
-abbrev pub Checks : (Option (List ℕ) → Type 0) → List ℕ → (verbose : Bool) →
+-- The configuration in a file is read, and this is printed of its settings.
+abbrev pub Checks : (Option (List ℕ) → Type 0) → Shown → List ℕ → (verbose : Bool) →
     Option (List ℕ) → Option (List ℕ) → Exit → Option (List ℕ) → Type 0
-Checks says path verbose old new exit line =
-    ((text : List ℕ) × says (Some text) × Passes verbose path text old new exit line)
+Checks says shown path verbose old new exit line =
+    ((text : List ℕ) × says (Some text) × Passes shown text old new exit line)
     ⊎ ((text : List ℕ) × says (Some text) × Refuses verbose path text exit line × Keeps old new)
     ⊎ (MissesFile says path exit line × Keeps old new)
     ⊎ LacksMemory exit line
@@ -102,12 +118,28 @@ abbrev pub EndsFeed : (Outcome → FeedEnd → Type 0) → Outcome → Exit → 
 EndsFeed did outcome exit line =
     (end : FeedEnd) × did outcome end × (exit ≡ exit_of_end end) × (line ≡ Some (end_text end))
 
+-- With these settings, what feeds was asked and did this; or a name is no peer of theirs, and it was not asked.
+abbrev pub WorksOn : (stranger : Outcome → Option (List ℕ)) → (did : Outcome → FeedEnd → Type 0) → (unasked : Type 0) →
+    List ℕ → Option (List ℕ) → Option (List ℕ) → Outcome → Exit → Option (List ℕ) → Type 0
+WorksOn stranger did unasked path old new outcome exit line =
+    ((stranger outcome ≡ None) × EndsFeed did outcome exit line)
+    ⊎ ((name : List ℕ) × (stranger outcome ≡ Some name) × (exit ≡ Usage)
+    × (line ≡ Some (stranger_text name path)) × Keeps old new × unasked)
+
+-- The same, or memory was refused before.
+abbrev pub TriesOn : (stranger : Outcome → Option (List ℕ)) → (did : Outcome → FeedEnd → Type 0) → (unasked : Type 0) →
+    List ℕ → Option (List ℕ) → Option (List ℕ) → Outcome → Exit → Option (List ℕ) → Type 0
+TriesOn stranger did unasked path old new outcome exit line =
+    WorksOn stranger did unasked path old new outcome exit line
+    ⊎ (LacksMemory exit line × Keeps old new × unasked)
+
 -- Something that what feeds does with the settings in a file; it is not asked if there are none.
-abbrev pub Works : (Option (List ℕ) → Type 0) → (did : Outcome → FeedEnd → Type 0) → (unasked : Type 0) → List ℕ →
-    (verbose : Bool) → Option (List ℕ) → Option (List ℕ) → Exit → Option (List ℕ) → Type 0
-Works says did unasked path verbose old new exit line =
+abbrev pub Works : (Option (List ℕ) → Type 0) → (stranger : Outcome → Option (List ℕ)) →
+    (did : Outcome → FeedEnd → Type 0) → (unasked : Type 0) → List ℕ → (verbose : Bool) →
+    Option (List ℕ) → Option (List ℕ) → Exit → Option (List ℕ) → Type 0
+Works says stranger did unasked path verbose old new exit line =
     ((text : List ℕ) × (outcome : Outcome) × says (Some text) × Means text (Ok outcome)
-    × EndsFeed did outcome exit line)
+    × WorksOn stranger did unasked path old new outcome exit line)
     ⊎ ((text : List ℕ) × says (Some text) × Refuses verbose path text exit line × Keeps old new × unasked)
     ⊎ (MissesFile says path exit line × Keeps old new × unasked)
     ⊎ (LacksMemory exit line × Keeps old new × unasked)
@@ -134,13 +166,15 @@ abbrev pub Does : (List ℕ → Option (List ℕ) → Type 0) → Feeding →
 Does says feeds holds old new DrillFromInput exit line = DrillsInput holds old new exit line
 Does says feeds holds old new (Drill path) exit line = DrillsFile (says path.now) path.now old new exit line
 Does says feeds holds old new (Check path verbose) exit line =
-    Checks (says path.now) path.now verbose old new exit line
+    Checks (says path.now) (reported verbose path.now) path.now verbose old new exit line
+Does says feeds holds old new (PrintConf path verbose) exit line =
+    Checks (says path.now) in_force path.now verbose old new exit line
 Does says feeds holds old new (Owed path listing verbose) exit line =
-    Works (says path.now) (λ conf end. feeds.listed conf listing verbose end) feeds.unasked
-    path.now verbose old new exit line
+    Works (says path.now) (λ conf. stranger_of listing conf) (λ conf end. feeds.listed conf listing verbose end)
+    feeds.unasked path.now verbose old new exit line
 Does says feeds holds old new (Feed path source drops_missing verbose) exit line =
-    Works (says path.now) (λ conf end. feeds.fed conf (source_view source) drops_missing verbose end) feeds.unasked
-    path.now verbose old new exit line
+    Works (says path.now) (λ conf. None) (λ conf end. feeds.fed conf (source_view source) drops_missing verbose end)
+    feeds.unasked path.now verbose old new exit line
 Does says feeds holds old new (Print text) exit line = Prints (string_bytes text) old new exit line
 Does says feeds holds old new (Mistake what) exit line =
     (exit ≡ Usage) × (line ≡ Some (mistake_text (string_bytes what))) × Keeps old new

@@ -5,7 +5,8 @@ use Rattle.feed_ends.specs.Source.{Source}
 use Rattle.feed_ends.specs.declared.feed_end.FeedEnd.{FeedEnd}
 use Rattle.feed_ends.specs.declared.listing.Listing.{Listing}
 use Rattle.cli.specs.declared.order.Order.{Order}
-use Rattle.cli.specs.declared.order.Order.TheVariants.{DrillFromInput, Drill, Check, Owed, Feed, Print, Mistake}
+use Rattle.cli.specs.declared.order.Order.TheVariants.{DrillFromInput, Drill, Check, PrintConf, Owed, Feed}
+use Rattle.cli.specs.declared.order.Order.TheVariants.{Print, Mistake}
 
 -- What became of it and of standard output in each case: it fed by these settings, from this source, dropping each
 -- missing article or not, logging or not, and ended like this; it listed what is owed by these settings, or all that
@@ -31,6 +32,7 @@ abbrev pub asks_feeds : Order → Bool
 asks_feeds DrillFromInput = false
 asks_feeds (Drill path) = false
 asks_feeds (Check path verbose) = false
+asks_feeds (PrintConf path verbose) = false
 asks_feeds (Owed path listing verbose) = true
 asks_feeds (Feed path source drops_missing verbose) = true
 asks_feeds (Print text) = false

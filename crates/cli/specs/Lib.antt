@@ -7,3 +7,4 @@ pub mod Feed
 pub mod Feeding
 pub mod FeedLines
 pub mod Lines
+pub mod Strangers

@@ -24,6 +24,10 @@ no_tape_text refusal = failed_text refusal.peer refusal.fault
 abbrev pub unread_text : List ℕ → List ℕ
 unread_text path = codes "cannot read " ++ path ++ 10 ∷ []
 
+-- the same, after the reason in the system's words
+abbrev pub unread_lines : (path reason : List ℕ) → List ℕ
+unread_lines path reason = path ++ (codes ": " ++ reason ++ 10 ∷ []) ++ unread_text path
+
 -- standard input that cannot be read, for this reason
 abbrev pub input_text : List ℕ → List ℕ
 input_text reason = codes "innfeed: cannot read standard input: " ++ reason ++ 10 ∷ []
@@ -36,5 +40,15 @@ output_text reason = codes "innfeed: cannot write standard output: " ++ reason +
 abbrev pub mistake_text : List ℕ → List ℕ
 mistake_text what =
     codes "innfeed: " ++ what
-    ++ codes "; usage: innfeed -c FILE [-C] [-x] [-v] [--owed [--all]] [--follow] [--tidy] [--expired] [FUNNEL]"
-    ++ codes " | innfeed --drill FILE | innfeed < SCRIPT" ++ 10 ∷ []
+    ++ codes "; usage: innfeed -c FILE [-C] [-x] [-v] [--log-time] [--owed [--all] [--peer NAME ..] [--summary]] "
+    ++ codes "[--follow] [--tidy] [--expired] [FUNNEL] | innfeed -c FILE --print-conf | innfeed --drill FILE"
+    ++ codes " | innfeed < SCRIPT" ++ 10 ∷ []
+
+-- that something is no peer of the configuration in the file at this path, and what to do
+abbrev pub no_peer_of : (path : List ℕ) → List ℕ
+no_peer_of path =
+    codes " is no peer of " ++ path ++ codes "; name one of its peers, or add --all for a name that is none\n"
+
+-- a name that is no peer
+abbrev pub stranger_text : (name path : List ℕ) → List ℕ
+stranger_text name path = codes "innfeed: " ++ name ++ no_peer_of path

@@ -92,7 +92,11 @@ fn add_file(lines: &mut Vec<u8>, error: &FileError) -> Result<(), AllocError>
     }
 }
 
-fn add_line(lines: &mut Vec<u8>, what: &[u8], which: &[u8]) -> Result<(), AllocError>
+/// Adds a line of these two texts.
+///
+/// # Errors
+/// Memory was refused.
+pub fn add_line(lines: &mut Vec<u8>, what: &[u8], which: &[u8]) -> Result<(), AllocError>
     ensures { OnOk result
         (lines.new.items ≡ lines.old.items ++ (what.now ++ which.now ++ 10 ∷ [])) }
 {

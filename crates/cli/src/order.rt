@@ -14,11 +14,17 @@ pub enum Order<'a> {
         conf: &'a str,
         verbose: bool,
     },
+    /// Print the settings in force of the configuration in the file `conf`; if `verbose`, explain a bad one.
+    PrintConf {
+        conf: &'a str,
+        verbose: bool,
+    },
     /// Print what each peer of the configuration in the file `conf` is owed, or all that waits in its backlog
-    /// directory; if `verbose`, log the last line that is acknowledged, and explain a bad configuration.
+    /// directory, as much as `listing` says; if `verbose`, log the last line that is acknowledged, and explain a bad
+    /// configuration.
     Owed {
         conf: &'a str,
-        listing: Listing,
+        listing: Listing<'a>,
         verbose: bool,
     },
     /// Feed the peers of the configuration in the file `conf` from this source; if `drops_missing`, drop every article

@@ -1,21 +1,26 @@
 // What each order of the command line does (docs/MANUAL.md).
-ghost use Rattle.std.specs.Prelude.{◌≡◌, ◌≢◌, List, ℕ, Option, OnOk, false, option_map};
+ghost use Rattle.std.specs.Prelude.{◌≡◌, ◌≢◌, List, ℕ, Option, IfOk, OnOk, false, option_map};
 ghost use Rattle.std.specs.Io.KnownBytes.{Appends};
 ghost use Rattle.feed_conf.specs.ConfView.{conf_view};
 ghost use Rattle.cli.specs.Ends.{Checks, Does, DrillsFile, DrillsInput, Prints, PrintsBeside, Runs, Reports, Works};
+ghost use Rattle.cli.specs.Ends.{TriesOn, in_force, reported};
 ghost use Rattle.cli.specs.Errand.{DoesErrand};
 ghost use Rattle.cli.specs.Feeding.{asks_feeds, feeding_of};
 ghost use Rattle.cli.specs.OrderFault.{Comes, IsLineOf};
+ghost use Rattle.cli.specs.Strangers.{stranger_of_errand};
 
 use crate::check::{Checked, check, settings_of};
 use crate::exit::Exit;
 use crate::fault::OrderFault;
 use crate::files::ReadFile;
 use crate::order::Order;
+use crate::strangers::stranger_of;
+use conf_text::conf_text;
 use drill::{Ending, run_script};
 use feed_conf::Conf;
 use feed_ends::{FeedEnd, Feeds, Listing, Source};
-use std::alloc::Global;
+use log_writer::LeveledWrite;
+use std::alloc::{AllocError, Global};
 use std::io::{self, Read, Write};
 
 /// How an order ended.
@@ -26,9 +31,9 @@ pub struct Ended {
     pub reported: io::Result<()>,
 }
 
-/// Does what an order asks for. If that fails, writes one line on standard error, or none if memory was refused. The
-/// status is the same whether or not that line could be written.
-pub fn run<F: ReadFile, P: Feeds, S: Read, W: Write, E: Write>(
+/// Does what an order asks for. If that fails, writes why on standard error, or nothing if memory was refused. The
+/// status is the same whether or not that could be written. `err` learns which of the lines report faults.
+pub fn run<F: ReadFile, P: Feeds, S: Read, W: Write, E: LeveledWrite>(
     alloc: Global,
     order: Order<'_>,
     files: &F,
@@ -58,15 +63,27 @@ pub fn run<F: ReadFile, P: Feeds, S: Read, W: Write, E: Write>(
     }
 }
 
-fn report_fault<E: Write>(alloc: Global, fault: &OrderFault<'_>, err: &mut E) -> io::Result<()>
+fn report_fault<E: LeveledWrite>(
+    alloc: Global,
+    fault: &OrderFault<'_>,
+    err: &mut E,
+) -> io::Result<()>
     ensures { (line : Option (List ℕ)) × IsLineOf fault.now line
         × Reports (E.contents err.old) (E.contents err.new) result line }
 {
     match fault.line(alloc) {
         Ok(None) => Ok(()),
-        Ok(Some(line)) => write_whole(err, &line),
+        Ok(Some(lines)) => write_lines(err, fault.fault_count(), &lines),
         Err(refused) => Err(io::Error::from(refused)),
     }
+}
+
+// Writes lines, of which so many report faults.
+fn write_lines<E: LeveledWrite>(err: &mut E, fault_count: usize, lines: &[u8]) -> io::Result<()>
+    ensures { OnOk result (Appends (E.contents err.old) (E.contents err.new) lines.now) }
+{
+    err.expect_faults(fault_count);
+    write_whole(err, lines)
 }
 
 fn write_whole<W: Write>(writer: &mut W, text: &[u8]) -> io::Result<()>
@@ -95,6 +112,7 @@ fn perform<'a, F: ReadFile, P: Feeds, S: Read, W: Write>(
         Order::DrillFromInput => drill_input(alloc, input, out),
         Order::Drill(path) => drill_file(alloc, files, path, out),
         Order::Check { conf, verbose } => check_file(alloc, files, conf, verbose, out),
+        Order::PrintConf { conf, verbose } => show_file(alloc, files, conf, verbose, out),
         Order::Owed {
             conf,
             listing,
@@ -181,8 +199,8 @@ fn check_file<'a, F: ReadFile, W: Write>(
     out: &mut W,
 ) -> Result<Exit, OrderFault<'a>>
     ensures { Comes
-        (Checks (F.says files.now path.now) path.now verbose (W.contents out.old)
-        (W.contents out.new))
+        (Checks (F.says files.now path.now) (reported verbose path.now) path.now verbose
+        (W.contents out.old) (W.contents out.new))
         result }
 {
     match files.read_file(alloc, path) {
@@ -206,12 +224,34 @@ fn print_checked<'a, W: Write>(out: &mut W, checked: Checked) -> Result<Exit, Or
     }
 }
 
+// Prints the settings in force.
+fn show_file<'a, F: ReadFile, W: Write>(
+    alloc: Global,
+    files: &F,
+    path: &'a str,
+    verbose: bool,
+    out: &mut W,
+) -> Result<Exit, OrderFault<'a>>
+    ensures { Comes
+        (Checks (F.says files.now path.now) in_force path.now verbose
+        (W.contents out.old) (W.contents out.new))
+        result }
+{
+    match files.read_file(alloc, path) {
+        Ok(text) => match settings_of(alloc, path, &text, verbose) {
+            Ok(conf) => print(out, &conf_text(alloc, &conf)?),
+            Err(fault) => Err(fault),
+        },
+        Err(error) => Err(OrderFault::of_file(path, error)),
+    }
+}
+
 // What to do with the settings in a file.
-#[derive(Clone, Copy)]
+#[derive(Drop)]
 enum Errand<'a> {
     // List what their peers are owed, or all that waits.
     List {
-        listing: Listing,
+        listing: Listing<'a>,
         verbose: bool,
     },
     // Feed their peers.
@@ -228,11 +268,11 @@ fn serve<'a, F: ReadFile, P: Feeds, W: Write>(
     feeds: &mut P,
     path: &'a str,
     verbose: bool,
-    errand: Errand<'_>,
+    errand: Errand<'a>,
     out: &mut W,
 ) -> Result<Exit, OrderFault<'a>>
     ensures { Comes
-        (Works (F.says files.now path.now)
+        (Works (F.says files.now path.now) (stranger_of_errand errand.entry)
         (DoesErrand P.fed P.listed feeds.old feeds.new (W.contents out.old) (W.contents out.new)
         errand.entry)
         (feeds.new ≡ feeds.old) path.now verbose (W.contents out.old) (W.contents out.new))
@@ -240,10 +280,49 @@ fn serve<'a, F: ReadFile, P: Feeds, W: Write>(
 {
     match files.read_file(alloc, path) {
         Ok(text) => match settings_of(alloc, path, &text, verbose) {
-            Ok(conf) => Err(OrderFault::Fed(run_errand(alloc, feeds, conf, path, errand, out))),
+            Ok(conf) => serve_by(alloc, feeds, conf, path, errand, out),
             Err(fault) => Err(fault),
         },
         Err(error) => Err(OrderFault::of_file(path, error)),
+    }
+}
+
+// Does what an errand asks for by these settings, unless it asks for a name that is no peer of theirs.
+fn serve_by<'a, P: Feeds, W: Write>(
+    alloc: Global,
+    feeds: &mut P,
+    conf: Conf,
+    path: &'a str,
+    errand: Errand<'a>,
+    out: &mut W,
+) -> Result<Exit, OrderFault<'a>>
+    ensures { Comes
+        (TriesOn (stranger_of_errand errand.entry)
+        (DoesErrand P.fed P.listed feeds.old feeds.new (W.contents out.old) (W.contents out.new)
+        errand.entry)
+        (feeds.new ≡ feeds.old) path.now (W.contents out.old) (W.contents out.new)
+        (conf_view conf))
+        result }
+{
+    match stranger_in(alloc, &conf, &errand) {
+        Ok(Some(name)) => Err(OrderFault::Stranger { name, path }),
+        Ok(None) => Err(OrderFault::Fed(run_errand(alloc, feeds, conf, path, errand, out))),
+        Err(_) => Err(OrderFault::NoMemory),
+    }
+}
+
+// The first name that an errand asks for and that is no peer of these settings.
+fn stranger_in<'a>(
+    alloc: Global,
+    conf: &Conf,
+    errand: &Errand<'a>,
+) -> Result<Option<&'a str>, AllocError>
+    ensures { IfOk result (λ name. option_map (λ octets. octets.now) name
+        ≡ stranger_of_errand errand.now (conf_view conf.now)) }
+{
+    match errand {
+        Errand::List { listing, .. } => stranger_of(alloc, conf, listing),
+        Errand::Feed { .. } => Ok(None),
     }
 }
 
@@ -259,7 +338,7 @@ fn run_errand<P: Feeds, W: Write>(
         (W.contents out.new) errand.entry (conf_view conf) result }
 {
     match errand {
-        Errand::List { listing, verbose } => feeds.list_owed(alloc, conf, listing, verbose, out),
+        Errand::List { listing, verbose } => feeds.list_owed(alloc, conf, &listing, verbose, out),
         Errand::Feed {
             source,
             drops_missing,

@@ -1,18 +1,21 @@
 // The arguments of the command line, and the order that they give (docs/MANUAL.md).
 ghost use Rattle.std.specs.Prelude.{◌≡◌, ◌≢◌, ◌≤◌, ◌↔◌, ◌⊎◌, length};
-ghost use Rattle.std.specs.Prelude.{Ok, Err, IfOk, IsErr, IsTrue, codes, option_map, alloc_error, if◌then◌else◌};
-ghost use Rattle.clap.specs.Words.{first_value, found_of, kind_of, one_text};
-ghost use Rattle.cli_args.specs.Args.{AllFits, Asks, AsksOf, AsksSource, HasMore, HasSource};
-ghost use Rattle.cli_args.specs.Args.{IsFlag, IsMistaken, IsPrinted};
+ghost use Rattle.std.specs.Prelude.{Ok, Err, IfOk, IsErr, IsTrue, codes, map, option_map, alloc_error};
+ghost use Rattle.clap.specs.Words.{first_value, found_of, kind_of, matched_of, one_text, raw_values};
+ghost use Rattle.cli_args.specs.Args.{Asks, AsksListing, AsksOf, AsksSource, AsksSourceOf, HasMore};
+ghost use Rattle.cli_args.specs.Args.{HasOther, HasSource, names_in, scope_by};
+ghost use Rattle.cli_args.specs.Args.{IsFlag, IsMistaken, IsPrinted, ListingFits};
 
 use clap::error::ErrorKind;
 use clap::{Arg, ArgAction, ArgMatches, Command, Error};
-use cli::{Order, VERSION};
-use feed_ends::{Listing, Source};
+use cli::Order;
+use feed_ends::{Listing, Scope, Source};
 use std::alloc::{AllocError, Global};
 
 const USAGE: &str =
-    "innfeed -c FILE [-C] [-x] [-v] [--owed [--all]] [--follow] [--tidy] [--expired] [FUNNEL]
+    "innfeed -c FILE [-C] [-x] [-v] [--log-time] [--follow] [--tidy] [--expired] [FUNNEL]
+       innfeed -c FILE --owed [--all] [--peer NAME]... [--summary] [-v] [--log-time]
+       innfeed -c FILE --print-conf [-v]
        innfeed --drill FILE
        innfeed < SCRIPT";
 
@@ -21,7 +24,7 @@ const ABOUT: &str =
 
 const AFTER_HELP: &str =
     "-C takes precedence over --owed, and --owed over -x, --follow, --tidy and --expired. With -C, --owed or -x
-FUNNEL is ignored; otherwise it is required.
+FUNNEL is ignored; otherwise it is required. With -v each argument that is ignored is named.
 Without arguments a drill script is read from standard input.
 
 Exit status: 0 success; 1 bad configuration, malformed drill script or refused step; 2 usage error;
@@ -29,39 +32,70 @@ Exit status: 0 success; 1 bad configuration, malformed drill script or refused s
 read, written or removed, or standard input or output fails; 5 out of memory, threads or system resources for
 sockets.";
 
-/// Reads the arguments of the command line, the first of which is the program's own name.
+/// What the arguments ask for.
+#[derive(Drop)]
+pub struct Asked<'a> {
+    pub order: Order<'a>,
+    /// Whether each line on standard error begins with the time and the process.
+    pub has_log_time: bool,
+    /// With `-v`, a line for each argument that is given and not read, with its LF.
+    pub unread: String,
+}
+
+/// Reads the arguments of the command line, the first of which is the program's own name. `version` is what is printed
+/// for the version, after that name.
 ///
 /// # Errors
 /// Memory was refused.
-pub fn read_args<'a>(alloc: Global, args: &'a [String]) -> Result<Order<'a>, AllocError>
-    ensures { IfOk result (λ order. (order ≡ Order.DrillFromInput) ↔ (length args.now ≤ 1)) }
+pub fn read_args<'a>(
+    alloc: Global,
+    args: &'a [String],
+    version: &'a str,
+) -> Result<Asked<'a>, AllocError>
+    ensures { IfOk result (λ asked.
+        (asked.order ≡ Order.DrillFromInput) ↔ (length args.now ≤ 1)) }
 {
     if args.len() <= 1 {
-        return Ok(Order::DrillFromInput);
+        return Ok(only(alloc, Order::DrillFromInput));
     }
-    match command(alloc)?.try_get_matches_from(args) {
-        Ok(matches) => order_of(alloc, given_by(&matches)),
-        Err(error) => answer(alloc, error),
+    match command(alloc, version)?.try_get_matches_from(args) {
+        Ok(matches) => asked_by(alloc, given_by(&matches)),
+        Err(error) => Ok(only(alloc, answer(alloc, error)?)),
+    }
+}
+
+// An order, with lines that begin with no time, and nothing that is not read.
+fn only<'a>(alloc: Global, order: Order<'a>) -> Asked<'a>
+    ensures { result.order ≡ order.entry }
+{
+    Asked {
+        order,
+        has_log_time: false,
+        unread: String::new(alloc),
     }
 }
 
 // What is given on the command line.
 #[derive(Clone, Copy)]
-struct Given<'a> {
-    config: Option<&'a str>,
-    check: bool,
-    owed: bool,
-    all: bool,
-    backlog: bool,
-    follow: bool,
-    tidy: bool,
-    expired: bool,
-    verbose: bool,
-    funnel: Option<&'a str>,
-    drill: Option<&'a str>,
+pub(crate) struct Given<'a, 'm> {
+    pub config: Option<&'a str>,
+    pub check: bool,
+    pub print_conf: bool,
+    pub owed: bool,
+    pub all: bool,
+    pub names: Option<&'m [&'a str]>,
+    pub summary: bool,
+    pub backlog: bool,
+    pub follow: bool,
+    pub tidy: bool,
+    pub expired: bool,
+    pub verbose: bool,
+    pub log_time: bool,
+    pub funnel: Option<&'a str>,
+    pub drill: Option<&'a str>,
 }
 
-fn command<'a>(alloc: Global) -> Result<Command<'a>, AllocError> {
+fn command<'a>(alloc: Global, version: &'a str) -> Result<Command<'a>, AllocError> {
     let config = Arg::new(alloc, "config")
         .short('c')
         .value_name("FILE")
@@ -77,19 +111,23 @@ fn command<'a>(alloc: Global) -> Result<Command<'a>, AllocError> {
             token, a message-id and peers; continue after the last acknowledged line",
     );
     Command::new(alloc, "innfeed")
-        .version(VERSION)
+        .version(version)
         .about(ABOUT)
         .override_usage(USAGE)
         .after_help(AFTER_HELP)
         .arg(config)?
         .arg(check_flag(alloc))?
+        .arg(print_conf_flag(alloc))?
         .arg(owed_flag(alloc))?
         .arg(all_flag(alloc))?
+        .arg(peer_option(alloc))?
+        .arg(summary_flag(alloc))?
         .arg(backlog_flag(alloc))?
         .arg(follow_flag(alloc))?
         .arg(tidy_flag(alloc))?
         .arg(expired_flag(alloc))?
         .arg(verbose_flag(alloc))?
+        .arg(log_time_flag(alloc))?
         .arg(drill)?
         .arg(funnel)
 }
@@ -119,6 +157,38 @@ fn all_flag<'a>(alloc: Global) -> Arg<'a> {
         .help(
             "With --owed, also list what is queued for names that are no peers, and what is kept beside the tapes",
         )
+}
+
+fn print_conf_flag<'a>(alloc: Global) -> Arg<'a> {
+    Arg::new(alloc, "print-conf")
+        .long("print-conf")
+        .action(ArgAction::SetTrue)
+        .help("Print the settings in force, with all defaults and limits, as a configuration")
+}
+
+fn peer_option<'a>(alloc: Global) -> Arg<'a> {
+    Arg::new(alloc, "peer")
+        .long("peer")
+        .value_name("NAME")
+        .action(ArgAction::Append)
+        .help("With --owed, list what is queued for this peer alone; may be given more than once")
+}
+
+fn summary_flag<'a>(alloc: Global) -> Arg<'a> {
+    Arg::new(alloc, "summary")
+        .long("summary")
+        .action(ArgAction::SetTrue)
+        .help(
+            "With --owed, print one line for each peer: its name, how many articles are queued, their octets as in \
+            the status file, and the number of the oldest one",
+        )
+}
+
+fn log_time_flag<'a>(alloc: Global) -> Arg<'a> {
+    Arg::new(alloc, "log-time")
+        .long("log-time")
+        .action(ArgAction::SetTrue)
+        .help("Begin each line on standard error with the time in UTC and the process")
 }
 
 fn backlog_flag<'a>(alloc: Global) -> Arg<'a> {
@@ -163,7 +233,7 @@ fn verbose_flag<'a>(alloc: Global) -> Arg<'a> {
         )
 }
 
-fn given_by<'a>(matches: &ArgMatches<'a>) -> Given<'a>
+fn given_by<'a, 'm>(matches: &'m ArgMatches<'a>) -> Given<'a, 'm>
     ensures config { option_map (λ path. path.now) result.config
         ≡ first_value (found_of matches.now) (codes "config") }
     ensures drill { option_map (λ path. path.now) result.drill
@@ -171,8 +241,15 @@ fn given_by<'a>(matches: &ArgMatches<'a>) -> Given<'a>
     ensures funnel { option_map (λ path. path.now) result.funnel
         ≡ first_value (found_of matches.now) (codes "funnel") }
     ensures check { IsFlag (one_text (found_of matches.now) (codes "check")) result.check }
+    ensures print_conf { IsFlag (one_text (found_of matches.now) (codes "print-conf"))
+        result.print_conf }
     ensures owed { IsFlag (one_text (found_of matches.now) (codes "owed")) result.owed }
     ensures all { IsFlag (one_text (found_of matches.now) (codes "all")) result.all }
+    ensures names { option_map (λ names. map (λ name. name.now) names.now) result.names
+        ≡ option_map raw_values (matched_of (found_of matches.now) (codes "peer")) }
+    ensures summary { IsFlag (one_text (found_of matches.now) (codes "summary")) result.summary }
+    ensures log_time { IsFlag (one_text (found_of matches.now) (codes "log-time"))
+        result.log_time }
     ensures backlog { IsFlag (one_text (found_of matches.now) (codes "backlog")) result.backlog }
     ensures follow { IsFlag (one_text (found_of matches.now) (codes "follow")) result.follow }
     ensures tidy { IsFlag (one_text (found_of matches.now) (codes "tidy")) result.tidy }
@@ -182,35 +259,61 @@ fn given_by<'a>(matches: &ArgMatches<'a>) -> Given<'a>
     Given {
         config: matches.get_str("config"),
         check: matches.get_flag("check"),
+        print_conf: matches.get_flag("print-conf"),
         owed: matches.get_flag("owed"),
         all: matches.get_flag("all"),
+        names: matches.get_strs("peer"),
+        summary: matches.get_flag("summary"),
         backlog: matches.get_flag("backlog"),
         follow: matches.get_flag("follow"),
         tidy: matches.get_flag("tidy"),
         expired: matches.get_flag("expired"),
         verbose: matches.get_flag("verbose"),
+        log_time: matches.get_flag("log-time"),
         funnel: matches.get_str("funnel"),
         drill: matches.get_str("drill"),
     }
 }
 
-// Whether anything is given besides `-c FILE` and `--drill FILE`.
-fn has_more(given: &Given<'_>) -> bool
-    ensures { IsTrue result ↔ HasMore given.now }
+// Whether anything is given besides `-c FILE`, `--drill FILE`, `--print-conf` and `-v`.
+fn has_other(given: &Given<'_, '_>) -> bool
+    ensures { IsTrue result ↔ HasOther given.now }
 {
-    given.verbose
+    given.log_time
         || given.follow
         || given.tidy
         || given.expired
         || given.check
         || given.owed
         || given.all
+        || given.names.is_some()
+        || given.summary
         || given.backlog
         || given.funnel.is_some()
 }
 
+// Whether anything is given besides `-c FILE` and `--drill FILE`.
+fn has_more(given: &Given<'_, '_>) -> bool
+    ensures { IsTrue result ↔ HasMore given.now }
+{
+    given.verbose || given.print_conf || has_other(given)
+}
+
+// What is asked for, and what is not read.
+fn asked_by<'a>(alloc: Global, given: Given<'a, '_>) -> Result<Asked<'a>, AllocError>
+    ensures { IfOk result (λ asked. Asks given.entry asked.order) }
+{
+    let order = order_of(alloc, given)?;
+    let unread = unread_by(alloc, &order, &given)?;
+    Ok(Asked {
+        order,
+        has_log_time: given.log_time,
+        unread,
+    })
+}
+
 // With a drill's file no other argument is allowed; anything else needs a configuration.
-fn order_of<'a>(alloc: Global, given: Given<'a>) -> Result<Order<'a>, AllocError>
+fn order_of<'a>(alloc: Global, given: Given<'a, '_>) -> Result<Order<'a>, AllocError>
     ensures { IfOk result (Asks given.entry) }
 {
     match (given.drill, given.config) {
@@ -221,11 +324,23 @@ fn order_of<'a>(alloc: Global, given: Given<'a>) -> Result<Order<'a>, AllocError
     }
 }
 
-fn order_on<'a>(alloc: Global, conf: &'a str, given: Given<'a>) -> Result<Order<'a>, AllocError>
+fn order_on<'a>(alloc: Global, conf: &'a str, given: Given<'a, '_>) -> Result<Order<'a>, AllocError>
     ensures { IfOk result (AsksOf conf.now given.entry) }
 {
-    if !all_fits(&given) {
-        return mistake(alloc, "'--all' requires '--owed'");
+    if given.print_conf {
+        if has_other(&given) {
+            return mistake(
+                alloc,
+                "'--print-conf' takes no other argument than '-c FILE' and '-v'",
+            );
+        }
+        return Ok(Order::PrintConf {
+            conf,
+            verbose: given.verbose,
+        });
+    }
+    if !listing_fits(&given) {
+        return mistake(alloc, listing_mistake(&given));
     }
     if given.check {
         return Ok(Order::Check {
@@ -236,10 +351,17 @@ fn order_on<'a>(alloc: Global, conf: &'a str, given: Given<'a>) -> Result<Order<
     if given.owed {
         return Ok(Order::Owed {
             conf,
-            listing: listing_of(&given),
+            listing: listing_of(alloc, &given)?,
             verbose: given.verbose,
         });
     }
+    feed_on(alloc, conf, given)
+}
+
+// A feed, if its source is given as it has to be.
+fn feed_on<'a>(alloc: Global, conf: &'a str, given: Given<'a, '_>) -> Result<Order<'a>, AllocError>
+    ensures { IfOk result (AsksSourceOf conf.now given.entry) }
+{
     match source_of(&given) {
         Ok(source) => Ok(Order::Feed {
             conf,
@@ -251,25 +373,51 @@ fn order_on<'a>(alloc: Global, conf: &'a str, given: Given<'a>) -> Result<Order<
     }
 }
 
-// Whether `--all` is not given, or given beside `--owed`.
-fn all_fits(given: &Given<'_>) -> bool
-    ensures { IsTrue result ↔ AllFits given.now }
+// Whether what says how much a list has is given only beside `--owed`.
+fn listing_fits(given: &Given<'_, '_>) -> bool
+    ensures { IsTrue result ↔ ListingFits given.now }
 {
-    !given.all || given.owed
+    given.owed || (!given.all && given.names.is_none() && !given.summary)
 }
 
-fn listing_of(given: &Given<'_>) -> Listing
-    ensures { result ≡ (if given.now.all then Listing.All else Listing.Peers) }
-{
+fn listing_mistake(given: &Given<'_, '_>) -> &'static str {
     if given.all {
-        Listing::All
+        "'--all' requires '--owed'"
+    } else if given.names.is_some() {
+        "'--peer NAME' requires '--owed'"
     } else {
-        Listing::Peers
+        "'--summary' requires '--owed'"
+    }
+}
+
+fn listing_of<'a>(alloc: Global, given: &Given<'a, '_>) -> Result<Listing<'a>, AllocError>
+    ensures { IfOk result (λ listing. AsksListing listing given.now) }
+{
+    Ok(Listing {
+        scope: scope_of(given.all),
+        names: names_of(alloc, given.names)?,
+        is_summary: given.summary,
+    })
+}
+
+fn scope_of(all: bool) -> Scope
+    ensures { result ≡ scope_by all }
+{
+    if all { Scope::All } else { Scope::Peers }
+}
+
+fn names_of<'a>(alloc: Global, names: Option<&[&'a str]>) -> Result<Vec<&'a str>, AllocError>
+    ensures { IfOk result (λ list. map (λ name. name.now) list.items
+        ≡ names_in (option_map (λ names. map (λ name. name.now) names.now) names.entry)) }
+{
+    match names {
+        Some(names) => Vec::from_slice(alloc, names),
+        None => Ok(Vec::new(alloc)),
     }
 }
 
 // The source of a feed, or the mistake in the arguments that give it.
-fn source_of<'a>(given: &Given<'a>) -> Result<Source<'a>, &'static str>
+fn source_of<'a>(given: &Given<'a, '_>) -> Result<Source<'a>, &'static str>
     ensures ok { IfOk result (λ source. AsksSource source given.now) }
     ensures mistake { IsErr result ↔ (HasSource given.now → ⊥) }
 {
@@ -326,4 +474,68 @@ fn mistake_in(alloc: Global, text: &str) -> Result<String, AllocError> {
         shown.push(if letter.is_control() { '?' } else { letter })?;
     }
     Ok(shown)
+}
+
+// What is given and not read, unless the arguments are wrong.
+fn unread_by(
+    alloc: Global,
+    order: &Order<'_>,
+    given: &Given<'_, '_>,
+) -> Result<String, AllocError> {
+    match order {
+        Order::Mistake(_) => Ok(String::new(alloc)),
+        _ if given.verbose => unread_lines(alloc, given),
+        _ => Ok(String::new(alloc)),
+    }
+}
+
+// A line for each argument that is given beside one that goes before it, so that it is not read.
+fn unread_lines(alloc: Global, given: &Given<'_, '_>) -> Result<String, AllocError> {
+    let mut lines = String::new(alloc);
+    let beside = precedent_of(given);
+    let feeds = !given.check && !given.owed;
+    if given.funnel.is_some() {
+        add_unread(&mut lines, "FUNNEL", beside)?;
+    }
+    if given.check && given.owed {
+        add_unread(&mut lines, "--owed", beside)?;
+    }
+    if !feeds && given.backlog {
+        add_unread(&mut lines, "-x", beside)?;
+    }
+    if !feeds && given.follow {
+        add_unread(&mut lines, "--follow", beside)?;
+    }
+    if !feeds && given.tidy {
+        add_unread(&mut lines, "--tidy", beside)?;
+    }
+    if !feeds && given.expired {
+        add_unread(&mut lines, "--expired", beside)?;
+    }
+    Ok(lines)
+}
+
+// The option that the others give way to, if there is one.
+fn precedent_of(given: &Given<'_, '_>) -> Option<&'static str> {
+    if given.check {
+        Some("-C")
+    } else if given.owed {
+        Some("--owed")
+    } else if given.backlog {
+        Some("-x")
+    } else {
+        None
+    }
+}
+
+// `innfeed: WORD is not read with OPTION`.
+fn add_unread(
+    lines: &mut String,
+    word: &str,
+    beside: Option<&'static str>,
+) -> Result<(), AllocError> {
+    match beside {
+        Some(beside) => writeln!(lines, "innfeed: {word} is not read with {beside}"),
+        None => Ok(()),
+    }
 }

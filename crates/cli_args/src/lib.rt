@@ -7,4 +7,4 @@
 
 mod args;
 
-pub use args::read_args;
+pub use args::{Asked, read_args};

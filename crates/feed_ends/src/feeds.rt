@@ -43,16 +43,18 @@ pub trait Feeds {
             (W.contents out.new) };
 
     /// Writes a line `NAME NUMBER TOKEN ID` for each debt of the peers of these settings, by name and rising number;
-    /// with `Listing::All` also what else waits in the backlog directory. If `verbose`, logs the last line that is
+    /// with [`Scope::All`](crate::Scope::All) also what else waits in the backlog directory. If the listing has names,
+    /// it writes what waits for these alone; each is one of the settings, or may be any with `Scope::All`. A summary
+    /// has a line `NAME N OCTETS NUMBER` in place of the debts of a name. If `verbose`, logs the last line that is
     /// acknowledged.
     fn list_owed<W: Write>(
         &mut self,
         alloc: Global,
         conf: Conf,
-        listing: Listing,
+        listing: &Listing<'_>,
         verbose: bool,
         out: &mut W,
     ) -> FeedEnd
-        ensures { listed self.old (W.contents out.old) (conf_view conf) listing verbose result
+        ensures { listed self.old (W.contents out.old) (conf_view conf) listing.now verbose result
             self.new (W.contents out.new) };
 }

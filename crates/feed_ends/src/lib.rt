@@ -13,5 +13,5 @@ mod source;
 
 pub use feed_end::{FeedEnd, FileError, Owing, TapeError};
 pub use feeds::Feeds;
-pub use listing::Listing;
+pub use listing::{Listing, Scope};
 pub use source::Source;

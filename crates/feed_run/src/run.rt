@@ -4,7 +4,7 @@ ghost use Rattle.std.specs.List.{All};
 ghost use Rattle.flusher.specs.Post.{IsFor, names_of};
 ghost use Rattle.flusher.specs.Sealed.{IsFlushed};
 
-use crate::start_and_end::{log_end, log_no_login, log_start};
+use crate::start_and_end::{log_end, log_no_login, log_no_spool, log_start, look_for_spool};
 use crate::suspects::{keep_all, suspects_of};
 use crate::system::Spools;
 use crate::targets::{by_name, hosts_of, targets_of};
@@ -31,7 +31,7 @@ use owed_list::log_strangers;
 use recovery::Tape;
 use resolver::{Host, LookUp, Resolver};
 use std::alloc::{AllocError, Global};
-use std::fs::{self, File};
+use std::fs::File;
 use std::io::{self, ErrorKind, Write};
 use std::marker::Brand;
 use std::net::{Net, TcpListener, TcpStream};
@@ -267,6 +267,7 @@ fn feed_open<
             funnel.path(),
             intake.mark(),
         );
+        log_no_spool(env.rt, env.files, &places.spool);
     }
     let taking = taking_of(env, backlogs, places, &confs, funnel, stop, keeper)?;
     let start = taking.start;
@@ -298,10 +299,8 @@ fn log_spool_fault<R: Log, F: Files<File = File>>(rt: &R, files: &F, spool: &[u8
     if !is_unread {
         return;
     }
-    match fs::metadata(files, text_of(spool)) {
-        Ok(there) if there.is_dir() => {}
-        Ok(_) => log_reason(rt, spool, &ErrorKind::NotADirectory.into()),
-        Err(error) => log_reason(rt, spool, &error),
+    if let Err(error) = look_for_spool(files, spool) {
+        log_reason(rt, spool, &error);
     }
 }
 

@@ -90,7 +90,8 @@ pub struct SystemFeeds<'a, R, F> {
 
 impl<'a, R, F> SystemFeeds<'a, R, F> {
     /// `files` opens files in this thread, `host` articles and sockets in the others; `_threads` may start threads. A
-    /// feed begins `log`, and writes to it, `version` too; a list of what is owed writes to standard error itself.
+    /// feed begins `log`, and writes to it, `version` too; a list of what is owed writes to standard error itself,
+    /// where its lines begin as those of `log` do.
     pub fn new(
         _threads: &R,
         files: &'a F,
@@ -117,6 +118,7 @@ fn logged_system<M: Threads + Wait + Send + 'static>(
     log.begin(starter, host.alloc(), host, host.stderr());
     LoggedSystem {
         host,
+        head: log.head(),
         log: log.writer().and_then(copied),
     }
 }
@@ -160,11 +162,16 @@ impl<R: Threads + Wait + Send + Sync + 'static, F: AllocGlobal + Files<File = Fi
         &mut self,
         alloc: Global,
         conf: Conf,
-        listing: Listing,
+        listing: &Listing<'_>,
         verbose: bool,
         out: &mut W,
     ) -> FeedEnd {
-        let rt = ThreadRuntime::<R, HostRuntime>::new(self.host, self.host, verbose);
+        let system = LoggedSystem {
+            host: self.host,
+            head: self.log.head(),
+            log: None,
+        };
+        let rt = ThreadRuntime::<R, LoggedSystem>::new(self.host, system, verbose);
         match Vec::from_slice(alloc, conf.backlog_directory()) {
             Ok(directory) => list_owed(&rt, self.files, &directory, &by_name(conf), listing, out),
             Err(_) => {

@@ -1,8 +1,8 @@
 // The runtime of a run's threads.
 use log::kv::Source;
 use log::span::Spans;
-use log::{LevelFilter, Log, Metadata, Record};
-use log_writer::LogWriter;
+use log::{Level, LevelFilter, Log, Metadata, Record};
+use log_writer::{LineHead, LogWriter};
 use std::alloc::Global;
 use std::fmt::Display;
 use std::io;
@@ -20,26 +20,28 @@ pub trait System {
     /// The system's.
     fn time(&self) -> io::Result<Duration>;
 
-    /// Writes a line of the log, if possible. `rt` waits for whatever the log has to wait for.
-    fn write_log<R: Wait + Clock, D: Display>(&self, rt: &R, line: &D);
+    /// Writes a line of the log, whose record has this level, if possible. `rt` waits for whatever the log has to wait
+    /// for.
+    fn write_log<R: Wait + Clock, D: Display>(&self, rt: &R, level: Level, line: &D);
 }
 
-/// The system's clock, and standard error. A line waits for whoever reads standard error.
+/// The system's clock, and standard error. A line waits for whoever reads standard error, and begins with nothing.
 impl System for HostRuntime {
     fn time(&self) -> io::Result<Duration> {
         self.monotonic()
     }
 
-    fn write_log<R: Wait + Clock, D: Display>(&self, _rt: &R, line: &D) {
+    fn write_log<R: Wait + Clock, D: Display>(&self, _rt: &R, _level: Level, line: &D) {
         let _ = self.eprintln(line);
     }
 }
 
 /// The system's clock, and a log that a thread of its own writes to standard error. Without such a thread, because none
-/// could be started, it is standard error itself.
+/// was or could be started, it is standard error itself, where lines begin with `head`.
 #[derive(Drop)]
 pub(crate) struct LoggedSystem {
     pub host: HostRuntime,
+    pub head: LineHead,
     pub log: Option<LogWriter>,
 }
 
@@ -48,10 +50,15 @@ impl System for LoggedSystem {
         self.host.time()
     }
 
-    fn write_log<R: Wait + Clock, D: Display>(&self, rt: &R, line: &D) {
+    fn write_log<R: Wait + Clock, D: Display>(&self, rt: &R, level: Level, line: &D) {
         match &self.log {
-            Some(log) => log.write_line(rt, line),
-            None => self.host.write_log(rt, line),
+            Some(log) => log.write_line(rt, level, line),
+            None => {
+                let mut out = self.host.stderr();
+                let _ = self
+                    .head
+                    .write_line(self.host.alloc(), &self.host, &mut out, level, line);
+            }
         }
     }
 }
@@ -116,7 +123,7 @@ impl<R: Wait, Y: System> Log for ThreadRuntime<R, Y> {
 
     fn log<D: Display, K: Source, S: Spans>(&self, record: &Record<'_, D, K, S>) {
         if self.level.allows(record.level()) {
-            self.system.write_log(self, record.args());
+            self.system.write_log(self, record.level(), record.args());
         }
     }
 

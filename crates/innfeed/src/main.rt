@@ -1,74 +1,96 @@
 //! `innfeed`, the outgoing feeder of a news server: the program.
 //!
-//! It may touch its arguments, the files that they and the configuration name, standard input, both outputs, sockets
-//! and threads; the work is done by `cli`. `cli_args::read_args` makes an order of the arguments, which `cli::run` does
-//! with the system's files and streams, and with `feed_run` if peers are to be fed. Nothing stands above it: what it
-//! promises is what the contracts of those calls promise, and what their tests show.
+//! It may touch its arguments, the files that they and the configuration name, the commit beside the program, standard
+//! input, both outputs, sockets and threads; the work is done by `cli`. `cli_args::read_args` makes an order of the
+//! arguments, which `cli::run` does with the system's files and streams, and with `feed_run` if peers are to be fed.
+//! Nothing stands above it: what it promises is what the contracts of those calls promise, and what their tests show.
 #![tactic(auto)]
 
 mod files;
+mod given;
+mod journal;
+mod report_output;
 mod streams;
+mod version;
 
 use cli::{Exit, Order, VERSION, run};
-use cli_args::read_args;
+use cli_args::Asked;
 use feed_ends::Feeds;
 use feed_run::SystemFeeds;
 use files::SystemFiles;
-use log_writer::{LastLines, RunLog};
-use std::env;
-use std::io::{self, BufWriter, ErrorKind, Write};
-use std::process::ExitCode;
-use std::rt::{Env, Files};
+use given::Given;
+use journal::is_journal;
+use log::Level;
+use log_writer::{LastLines, LeveledWrite, LineHead, RunLog};
+use report_output::ReportOutput;
+use std::io::{self, BufWriter, IsTerminal, Write};
+use std::process::{self, ExitCode};
+use std::rt::Files;
 use streams::stand_in;
 
-const NO_NULL: &[u8] = b"innfeed: cannot open /dev/null in place of closed standard streams\n";
+const NO_NULL: &str = "innfeed: cannot open /dev/null in place of closed standard streams";
 
-const NOT_TEXT: &str = "an argument of the command line is not valid UTF-8";
+const FROM_TERMINAL: &[u8] =
+    b"innfeed: reading a drill script from the terminal, to its end (Ctrl-D); to feed peers: innfeed -c FILE FUNNEL; \
+    all options: innfeed --help\n";
 
 fn main(rt: HostRuntime) -> ExitCode {
+    let has_level = is_journal(&rt);
     // Held to the end; nothing else is opened before.
     let Ok(_stand_ins) = stand_in(&rt) else {
-        let _ = rt.stderr().write_all(NO_NULL);
+        let head = LineHead {
+            has_level,
+            process: None,
+        };
+        let _ = head.write_line(rt.alloc(), &rt, &mut rt.stderr(), Level::Error, &NO_NULL);
         return ExitCode::from(Exit::Unreadable.status());
     };
+    // Besides the order, the only failure is that memory is refused.
+    let Ok(given) = Given::by_system(&rt) else {
+        return ExitCode::from(Exit::NoMemory.status());
+    };
+    let Ok(asked) = given.asked(rt.alloc()) else {
+        return ExitCode::from(Exit::NoMemory.status());
+    };
+    let head = LineHead {
+        has_level,
+        process: if asked.has_log_time {
+            Some(process::id(rt.process()))
+        } else {
+            None
+        },
+    };
     // A feed begins it. From then on all lines on standard error go through it, the last ones too.
-    let log = RunLog::new();
+    let log = RunLog::new(head);
     let mut feeds = SystemFeeds::new(&rt, &rt, rt, &log, VERSION);
     let mut err = LastLines::new(&rt, rt.stderr(), &log);
-    // Besides the order, the only failure is that memory is refused.
-    let exit = obey_args(&rt, &mut feeds, &mut err).unwrap_or(Exit::NoMemory);
+    if matches!(&asked.order, Order::DrillFromInput) && rt.stdin().is_terminal() {
+        err.expect_faults(0);
+        let _ = err.write_all(FROM_TERMINAL);
+    }
+    let exit = obey(&rt, asked, &mut feeds, &mut err).unwrap_or(Exit::NoMemory);
     err.end();
     ExitCode::from(exit.status())
 }
 
-// Does what the arguments ask for.
-fn obey_args<R: AllocGlobal + Input + Print + Env + Files, P: Feeds, E: Write>(
+// Does what is asked for, with the system's files and streams.
+fn obey<R: AllocGlobal + Input + Print + Files, P: Feeds, E: LeveledWrite>(
     rt: &R,
+    asked: Asked<'_>,
     feeds: &mut P,
     err: &mut E,
 ) -> io::Result<Exit> {
-    match env::args(rt) {
-        Ok(args) => {
-            let args: Vec<String> = args.collect(rt.alloc())?;
-            let order = read_args(rt.alloc(), &args)?;
-            obey(rt, order, feeds, err)
-        }
-        Err(error) if error.kind() == ErrorKind::OutOfMemory => Err(error),
-        Err(_) => {
-            let mistake = String::from_str(rt.alloc(), NOT_TEXT)?;
-            obey(rt, Order::Mistake(mistake), feeds, err)
-        }
+    let Asked {
+        order,
+        has_log_time: _,
+        unread,
+    } = asked;
+    if !unread.is_empty() {
+        err.expect_faults(0);
+        let _ = err.write_all(unread.as_bytes());
     }
-}
-
-// Does what an order asks for, with the system's files and streams.
-fn obey<R: AllocGlobal + Input + Print + Files, P: Feeds, E: Write>(
-    rt: &R,
-    order: Order<'_>,
-    feeds: &mut P,
-    err: &mut E,
-) -> io::Result<Exit> {
-    let mut out = BufWriter::new(rt.alloc(), io::writer(rt))?;
+    let output = ReportOutput::new(io::writer(rt), is_report(&order));
+    let mut out = BufWriter::new(rt.alloc(), output)?;
     let files = SystemFiles { rt };
     let ended = run(
         rt.alloc(),
@@ -80,4 +102,14 @@ fn obey<R: AllocGlobal + Input + Print + Files, P: Feeds, E: Write>(
         err,
     );
     Ok(ended.exit)
+}
+
+// Whether an order only prints something, so that it is done once nobody reads that any more.
+fn is_report(order: &Order<'_>) -> bool {
+    match order {
+        Order::Check { .. } | Order::PrintConf { .. } | Order::Owed { .. } | Order::Print(_) => {
+            true
+        }
+        Order::DrillFromInput | Order::Drill(_) | Order::Feed { .. } | Order::Mistake(_) => false,
+    }
 }

@@ -1,1 +1,2 @@
+pub mod LineHead
 pub mod LogQueue

@@ -7,12 +7,16 @@
 #![tactic(auto)]
 
 mod last_lines;
+mod leveled_write;
+mod line_head;
 mod log_queue;
 mod log_writer;
 mod output;
 mod run_log;
 
 pub use last_lines::LastLines;
+pub use leveled_write::LeveledWrite;
+pub use line_head::LineHead;
 pub use log_queue::{LogQueue, Portion, QUEUE_MAX_LINES};
 pub use log_writer::LogWriter;
 pub use run_log::RunLog;

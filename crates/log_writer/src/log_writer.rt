@@ -1,6 +1,8 @@
 // The thread that writes a log, and what the other threads share with it.
+use crate::line_head::LineHead;
 use crate::log_queue::{LogQueue, Portion};
 use crate::output::Output;
+use log::Level;
 use std::alloc::{AllocError, Global};
 use std::fmt::Display;
 use std::io::{self, ErrorKind, Write};
@@ -28,6 +30,8 @@ pub struct LogWriter {
 #[derive(Drop)]
 struct Shared {
     alloc: Global,
+    // What each line begins with.
+    head: LineHead,
     state: Mutex<State>,
     // A line was put or taken, all are written, or the end has begun.
     changed: Condvar,
@@ -70,7 +74,8 @@ impl<R, C: Clock> Clock for WriterRuntime<R, C> {
 }
 
 impl LogWriter {
-    /// Starts the thread, which writes to `out`. It reads `clock` only if `out` has no room and does not wait.
+    /// Starts the thread, which writes to `out`. Each line begins with `head`. The thread reads `clock` only if `out`
+    /// has no room and does not wait, and for the time in the heads of its own lines.
     ///
     /// # Errors
     /// `OutOfMemory`, or the system's if no thread can be started.
@@ -78,7 +83,7 @@ impl LogWriter {
         R: Threads + Wait + Send + 'static,
         C: Clock + Send + Drop + 'static,
         W: Write + Send + Drop + 'static,
-    >(rt: &R, alloc: Global, clock: C, out: W) -> Result<LogWriter, AllocError> {
+    >(rt: &R, alloc: Global, clock: C, head: LineHead, out: W) -> Result<LogWriter, AllocError> {
         let state = State {
             queue: LogQueue::new(alloc)?,
             is_writing: false,
@@ -90,6 +95,7 @@ impl LogWriter {
             alloc,
             Shared {
                 alloc,
+                head,
                 state: Mutex::new(state),
                 changed: Condvar::new(),
             },
@@ -100,7 +106,7 @@ impl LogWriter {
             clock,
             capability: PhantomData,
         };
-        let mut output = Output::new(alloc, out);
+        let mut output = Output::new(alloc, head, out);
         match thread::spawn(rt, move || theirs.run(&runtime, &mut output)) {
             Ok(_) => Ok(writer),
             Err(_) => Err(AllocError),
@@ -117,21 +123,20 @@ impl LogWriter {
         })
     }
 
-    /// Has a line written, behind those that wait. If 1,024 wait, it waits for room, but no longer than a second after
-    /// the first that did not fit since everything was last written: then it is counted as missing.
-    pub fn write_line<R: Wait + Clock, D: Display>(&self, rt: &R, line: &D) {
-        match format!(in self.shared.alloc; "{line}\n") {
-            Ok(text) => self.shared.put(rt, Some(text.into_bytes())),
-            Err(_) => self.shared.put(rt, None),
-        }
+    /// Has a line of this level written, behind those that wait. If 1,024 wait, it waits for room, but no longer than a
+    /// second after the first that did not fit since everything was last written: then it is counted as missing.
+    pub fn write_line<R: Wait + Clock, D: Display>(&self, rt: &R, level: Level, line: &D) {
+        let Shared { alloc, head, .. } = &*self.shared;
+        self.shared.put(rt, head.line(*alloc, rt, level, line).ok());
     }
 
-    /// Has a line with its LF written, one of the last of the run. The first call, or [`LogWriter::end`], begins the
-    /// end: from then on all lines have a second in all.
-    pub fn write_last<R: Wait + Clock>(&self, rt: &R, line: &[u8]) {
+    /// Has a line of this level with its LF written, one of the last of the run. The first call, or [`LogWriter::end`],
+    /// begins the end: from then on all lines have a second in all.
+    pub fn write_last<R: Wait + Clock>(&self, rt: &R, level: Level, line: &[u8]) {
         self.shared.begin_end(rt);
+        let Shared { alloc, head, .. } = &*self.shared;
         self.shared
-            .put(rt, Vec::from_slice(self.shared.alloc, line).ok());
+            .put(rt, head.line_of(*alloc, rt, level, line).ok());
     }
 
     /// Waits until everything is written, at most for what is left of the last second. The thread then ends by itself;

@@ -1,5 +1,7 @@
 // What the thread writes to: each line whole, and in the place of those that are missing how many they are.
+use crate::line_head::LineHead;
 use crate::log_queue::Portion;
+use log::Level;
 use std::alloc::{AllocError, Global};
 use std::io::{ErrorKind, Write};
 use std::rt::Clock;
@@ -13,6 +15,8 @@ const RETRY_WAIT_MS: u64 = 100;
 #[derive(Drop)]
 pub(crate) struct Output<W> {
     alloc: Global,
+    // What the lines that it tells itself begin with.
+    head: LineHead,
     writer: W,
     missing: u64,
     // Whether the line that was last written ends before its end.
@@ -20,9 +24,10 @@ pub(crate) struct Output<W> {
 }
 
 impl<W: Write> Output<W> {
-    pub fn new(alloc: Global, writer: W) -> Self {
+    pub fn new(alloc: Global, head: LineHead, writer: W) -> Self {
         Output {
             alloc,
+            head,
             writer,
             missing: 0,
             is_torn: false,
@@ -46,10 +51,10 @@ impl<W: Write> Output<W> {
         if self.missing == 0 {
             return true;
         }
-        let Ok(text) = missing_text(self.alloc, self.missing, self.is_torn) else {
+        let Ok(text) = self.missing_text(rt) else {
             return false;
         };
-        if self.has_written(rt, text.as_bytes()) {
+        if self.has_written(rt, &text) {
             self.missing = 0;
             self.is_torn = false;
             return true;
@@ -78,17 +83,27 @@ impl<W: Write> Output<W> {
         }
         unreachable!()
     }
-}
 
-// The line in the place of those that are missing. A torn line before it is ended first.
-fn missing_text(alloc: Global, missing: u64, is_torn: bool) -> Result<String, AllocError> {
-    let before = if is_torn { "\n" } else { "" };
-    let what = if missing == 1 {
-        "line of the log is missing"
-    } else {
-        "lines of the log are missing"
-    };
-    format!(in alloc;
-        "{before}{missing} {what} here: standard error was full or failed, or memory was refused\n"
-    )
+    // The line in the place of those that are missing. A torn line before it is ended first.
+    fn missing_text<C: Clock>(&self, clock: &C) -> Result<Vec<u8>, AllocError> {
+        let what = if self.missing == 1 {
+            "line of the log is missing"
+        } else {
+            "lines of the log are missing"
+        };
+        let line = format!(in self.alloc;
+            "{} {what} here: standard error was full or failed, or memory was refused\n",
+            self.missing
+        )?;
+        let mut text = Vec::new(self.alloc);
+        if self.is_torn {
+            text.push(b'\n')?;
+        }
+        text.extend_from_slice(
+            &self
+                .head
+                .line_of(self.alloc, clock, Level::Warn, line.as_bytes())?,
+        )?;
+        Ok(text)
+    }
 }

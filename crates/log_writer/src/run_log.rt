@@ -1,4 +1,5 @@
 // The log of a run, which begins when the run does.
+use crate::line_head::LineHead;
 use crate::log_writer::LogWriter;
 use std::alloc::Global;
 use std::cell::OnceCell;
@@ -7,16 +8,18 @@ use std::rt::Clock;
 use std::sync::Wait;
 use std::thread::Threads;
 
-/// The log of a run: its writer, once the run has begun.
+/// The log of a run: what its lines begin with, and its writer, once the run has begun.
 #[derive(Drop)]
 pub struct RunLog {
+    head: LineHead,
     writer: OnceCell<LogWriter>,
 }
 
 impl RunLog {
-    /// A log that has not begun.
-    pub fn new() -> RunLog {
+    /// A log that has not begun, whose lines begin with `head`.
+    pub fn new(head: LineHead) -> RunLog {
         RunLog {
+            head,
             writer: OnceCell::new(),
         }
     }
@@ -29,10 +32,15 @@ impl RunLog {
         W: Write + Send + Drop + 'static,
     >(&self, rt: &R, alloc: Global, clock: C, out: W) {
         if self.writer.get().is_none() {
-            if let Ok(writer) = LogWriter::start(rt, alloc, clock, out) {
+            if let Ok(writer) = LogWriter::start(rt, alloc, clock, self.head, out) {
                 let _ = self.writer.set(writer);
             }
         }
+    }
+
+    /// What its lines begin with.
+    pub fn head(&self) -> LineHead {
+        self.head
     }
 
     /// The writer, if the log has begun.

@@ -1,8 +1,7 @@
 -- Lines that have an article, and lines that have none.
-use Rattle.std.proofs.Common.{◌≡◌, ◌≢◌, ◌<◌, ◌≤◌, ℕ, List, Result, Ok, Err, Bool, true, false, length}
+use Rattle.std.proofs.Common.{◌≡◌, ◌≢◌, ◌<◌, ◌≤◌, ℕ, List, Option, Some, None, Result, Ok, Err, false, length}
 use Rattle.std.proofs.Common.{refl, sym, subst, arith}
-use Rattle.std.specs.Bool.{OnFalse, OnTrue}
-use Rattle.std.specs.Prelude.{◌↔◌, IfOk, IsErrOf, IsTrue, codes, filter}
+use Rattle.std.specs.Prelude.{◌↔◌, IfNone, IfOk, IfSome, IsErrOf, IsTrue, filter}
 use Rattle.funnel.specs.Line.{HasFault, IsBacklogLine, IsFunnelLine, longest_line}
 use Rattle.funnel.specs.LineLaws.{good_faultless}
 use Rattle.funnel.specs.Names.{is_peer_name}
@@ -10,7 +9,7 @@ use Rattle.funnel.specs.WordLaws.{first_word_once, gap_no_word}
 use Rattle.funnel.specs.Words.{IsFirstWord, IsGap}
 use Rattle.funnel.specs.declared.line.LineFault.{LineFault}
 use Rattle.funnel.specs.declared.line.LineFault.TheVariants.{BadId, BadToken, NoMemory, NoToken, TooLong}
-use Rattle.owed_list.specs.Texts.{IsNoArticle, IsNoUnknownLine, IsUnknownLine, ListsArticle, ListsUnknown}
+use Rattle.owed_list.specs.Texts.{IsNoArticle, IsNoUnknownLine, IsUnknownLine}
 
 -- a malformed line has the fault that is returned
 has_fault : {T : Type 0} (fault : LineFault) (line : List ℕ) (result : Result T LineFault) → result ≡ Err fault →
@@ -60,25 +59,26 @@ no_article_behind line word rest first none = λ name token id is.
     let same = first_word_once line word rest name is.rest first is.first in
     none token id (subst (λ (r : List ℕ). IsBacklogLine r token id) (sym same.1) is.article)
 
-pub article_behind : (line word rest old new : List ℕ) → length line ≤ longest_line → IsFirstWord line word rest →
-    IsTrue (is_peer_name word) → ListsArticle word (codes "~unknown") rest old new → ListsUnknown line old new
-article_behind line word rest old new short first form (token, id, article, is) = (
-  word,
-  token,
-  id,
-  record { rest = rest; short = short; first = first; name_form = form; article = article },
-  is,
-)
+pub article_behind : (line word rest name token id : List ℕ) → length line ≤ longest_line → IsFirstWord line word rest →
+    IsTrue (is_peer_name word) → (name ≡ word) × IsBacklogLine rest token id → IsUnknownLine line name token id
+article_behind line word rest name token id short first form (is, article) =
+    record {
+      rest = rest;
+      short = short;
+      first = subst (λ (n : List ℕ). IsFirstWord line n rest) (sym is) first;
+      name_form = subst (λ (n : List ℕ). IsTrue (is_peer_name n)) (sym is) form;
+      article = article;
+    }
 
 -- the same of a call that may be refused
-pub good_goes : {E : Type 0} (result : Result Bool E) (a b : Type 0) → (a → b) → IfOk result (λ is. OnTrue is a) →
-    IfOk result (λ is. OnTrue is b)
-good_goes (Ok true) a b goes h = goes h
-good_goes (Ok false) a b goes h = tt
-good_goes (Err e) a b goes h = tt
+pub found_goes : {A E : Type 0} (result : Result (Option A) E) (P Q : A → Type 0) → ((a : A) → P a → Q a) →
+    IfOk result (λ found. IfSome found P) → IfOk result (λ found. IfSome found Q)
+found_goes (Ok (Some a)) P Q goes h = goes a h
+found_goes (Ok None) P Q goes h = tt
+found_goes (Err e) P Q goes h = tt
 
-pub bad_goes : {E : Type 0} (result : Result Bool E) (a b : Type 0) → (a → b) → IfOk result (λ is. OnFalse is a) →
-    IfOk result (λ is. OnFalse is b)
-bad_goes (Ok true) a b goes h = tt
-bad_goes (Ok false) a b goes h = goes h
-bad_goes (Err e) a b goes h = tt
+pub missing_goes : {A E : Type 0} (result : Result (Option A) E) (P Q : Type 0) → (P → Q) →
+    IfOk result (λ found. IfNone found P) → IfOk result (λ found. IfNone found Q)
+missing_goes (Ok (Some a)) P Q goes h = tt
+missing_goes (Ok None) P Q goes h = goes h
+missing_goes (Err e) P Q goes h = tt

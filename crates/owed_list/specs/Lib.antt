@@ -1,3 +1,5 @@
 pub mod FirstRecord
 pub mod Names
+pub mod Summary
 pub mod Texts
+pub mod Wanted

@@ -14,11 +14,6 @@ owed_text name place token id = name ++ codes " " ++ place ++ codes " " ++ token
 abbrev pub IsNoArticle : List ℕ → Type 0
 IsNoArticle line = (token id : List ℕ) → IsBacklogLine line token id → ⊥
 
--- The list gets the article of this line.
-abbrev pub ListsArticle : (name place line : List ℕ) → (old new : List ℕ) → Type 0
-ListsArticle name place line old new = (token id : List ℕ) × IsBacklogLine line token id
-    × (new ≡ old ++ owed_text name place token id)
-
 -- A line of `~unknown`: the name of a peer, a token and a message-id, and then any words.
 pub record IsUnknownLine (line name token id : List ℕ) : Type 0 where
   pub rest : List ℕ
@@ -31,20 +26,20 @@ pub record IsUnknownLine (line name token id : List ℕ) : Type 0 where
 abbrev pub IsNoUnknownLine : List ℕ → Type 0
 IsNoUnknownLine line = (name token id : List ℕ) → IsUnknownLine line name token id → ⊥
 
--- The list gets the article of this line of `~unknown`.
-abbrev pub ListsUnknown : (line : List ℕ) → (old new : List ℕ) → Type 0
-ListsUnknown line old new = (name token id : List ℕ) × IsUnknownLine line name token id
-    × (new ≡ old ++ owed_text name (codes "~unknown") token id)
+-- the line of such a file has this article, which waits for the peer of this name
+abbrev pub HasArticle : Owed → (line name token id : List ℕ) → Type 0
+HasArticle (Kept peer) line name token id = (name ≡ peer.now) × IsBacklogLine line token id
+HasArticle Unknown line name token id = IsUnknownLine line name token id
 
--- The list gets the article of this line of such a file.
-abbrev pub Lists : Owed → (line : List ℕ) → (old new : List ℕ) → Type 0
-Lists (Kept peer) line old new = ListsArticle peer.now (codes "~kept") line old new
-Lists Unknown line old new = ListsUnknown line old new
+-- no line of such a file
+abbrev pub IsNoLine : Owed → List ℕ → Type 0
+IsNoLine (Kept peer) line = IsNoArticle line
+IsNoLine Unknown line = IsNoUnknownLine line
 
--- The line of such a file is malformed, and the list stays as it was.
-abbrev pub Omits : Owed → (line : List ℕ) → (old new : List ℕ) → Type 0
-Omits (Kept peer) line old new = IsNoArticle line × (new ≡ old)
-Omits Unknown line old new = IsNoUnknownLine line × (new ≡ old)
+-- how the list names such a file, in place of a number
+abbrev pub place_of : Owed → List ℕ
+place_of (Kept peer) = codes "~kept"
+place_of Unknown = codes "~unknown"
 
 -- how many articles are said to wait
 abbrev pub count_text : ℕ → List ℕ

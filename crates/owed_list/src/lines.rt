@@ -1,11 +1,13 @@
 // The lines of a list, and of what waits for strangers.
-ghost use Rattle.std.specs.Bool.{OnFalse, OnTrue};
-ghost use Rattle.std.specs.Prelude.{◌≡◌, ◌++◌, IfOk, OnOk, codes};
+ghost use Rattle.std.specs.Prelude.{◌≡◌, ◌++◌, ◌↔◌, IfNone, IfOk, IfSome, IsTrue, OnOk, codes};
 ghost use Rattle.ledger_core.specs.Keys.{key_text};
-ghost use Rattle.owed_list.specs.Texts.{IsNoArticle, IsNoUnknownLine, Lists, ListsArticle, ListsUnknown, Omits};
+ghost use Rattle.funnel.specs.Line.{IsBacklogLine};
+ghost use Rattle.owed_list.specs.Texts.{HasArticle, IsNoArticle, IsNoLine, IsNoUnknownLine, IsUnknownLine, place_of};
 ghost use Rattle.owed_list.specs.Texts.{count_text, owed_text, waiting_text};
 
-use funnel::{Form, LINE_MAX_OCTETS, LineFault, PeerNameForm, next_word, read_backlog_line};
+use funnel::{
+    Form, LINE_MAX_OCTETS, LineFault, MsgId, PeerNameForm, Token, next_word, read_backlog_line,
+};
 use ledger_core::Key;
 use std::alloc::{AllocError, Global};
 
@@ -14,66 +16,105 @@ use std::alloc::{AllocError, Global};
 pub(crate) enum Owed<'a> {
     /// `NAME~kept`, with the lines of the peer of this name: `TOKEN ID`.
     Kept(&'a [u8]),
-    /// `~unknown`, with the lines of names that were no peers': `NAME TOKEN ID`.
+    /// `~unknown`, with the lines of names that were no peers: `NAME TOKEN ID`.
     Unknown,
 }
 
-/// Adds the line of the list for a line of this file, and returns whether there is one: there is none if the line is
-/// malformed.
+impl Owed<'_> {
+    // How the list names this file, in place of a number.
+    fn place(self) -> &'static [u8]
+        ensures { result.now ≡ place_of self.entry }
+    {
+        match self {
+            Owed::Kept(_) => b"~kept",
+            Owed::Unknown => b"~unknown",
+        }
+    }
+}
+
+/// An article that waits in such a file.
+#[derive(Drop)]
+pub(crate) struct Article<'a> {
+    /// The name of the peer for which it waits.
+    pub name: &'a [u8],
+    pub token: Token,
+    pub id: MsgId,
+}
+
+/// The article of a line of this file; `None` if the line is malformed.
 ///
 /// # Errors
 /// Memory was refused.
-pub(crate) fn add_listed(out: &mut Vec<u8>, owed: Owed<'_>, line: &[u8]) -> Result<bool, AllocError>
-    ensures good { IfOk result (λ is_good. OnTrue is_good
-        (Lists owed.entry line.now out.old.items out.new.items)) }
-    ensures malformed { IfOk result (λ is_good. OnFalse is_good
-        (Omits owed.entry line.now out.old.items out.new.items)) }
+pub(crate) fn article_of<'a>(
+    alloc: Global,
+    owed: Owed<'a>,
+    line: &'a [u8],
+) -> Result<Option<Article<'a>>, AllocError>
+    ensures good { IfOk result (λ found. IfSome found (λ article.
+        HasArticle owed.entry line.now article.name.now article.token article.id)) }
+    ensures malformed { IfOk result (λ found. IfNone found (IsNoLine owed.entry line.now)) }
 {
     match owed {
-        Owed::Kept(name) => add_article(out, name, b"~kept", line),
-        Owed::Unknown => add_unknown(out, line),
+        Owed::Kept(name) => read_article(alloc, name, line),
+        Owed::Unknown => read_unknown(alloc, line),
     }
 }
 
-// Adds the line for the article of this line, which is owed to the peer of this name, in this place.
-fn add_article(
-    out: &mut Vec<u8>,
-    name: &[u8],
-    place: &[u8],
+// The article of a backlog file's line, which waits for the peer of this name.
+fn read_article<'a>(
+    alloc: Global,
+    name: &'a [u8],
     line: &[u8],
-) -> Result<bool, AllocError>
-    ensures good { IfOk result (λ is_good. OnTrue is_good
-        (ListsArticle name.now place.now line.now out.old.items out.new.items)) }
-    ensures malformed { IfOk result (λ is_good. OnFalse is_good
-        (IsNoArticle line.now × (out.new.items ≡ out.old.items))) }
+) -> Result<Option<Article<'a>>, AllocError>
+    ensures good { IfOk result (λ found. IfSome found (λ article.
+        (article.name.now ≡ name.now) × IsBacklogLine line.now article.token article.id)) }
+    ensures malformed { IfOk result (λ found. IfNone found (IsNoArticle line.now)) }
 {
-    match read_backlog_line(*out.allocator(), line) {
-        Ok((token, id)) => {
-            add_owed(out, name, place, token.bytes(), id.bytes())?;
-            Ok(true)
-        }
+    match read_backlog_line(alloc, line) {
+        Ok((token, id)) => Ok(Some(Article { name, token, id })),
         Err(LineFault::NoMemory) => Err(AllocError),
-        Err(_) => Ok(false),
+        Err(_) => Ok(None),
     }
 }
 
-// The same for a line of `~unknown`.
-fn add_unknown(out: &mut Vec<u8>, line: &[u8]) -> Result<bool, AllocError>
-    ensures good { IfOk result (λ is_good. OnTrue is_good
-        (ListsUnknown line.now out.old.items out.new.items)) }
-    ensures malformed { IfOk result (λ is_good. OnFalse is_good
-        (IsNoUnknownLine line.now × (out.new.items ≡ out.old.items))) }
+// The article of a line of `~unknown`.
+fn read_unknown<'a>(alloc: Global, line: &'a [u8]) -> Result<Option<Article<'a>>, AllocError>
+    ensures good { IfOk result (λ found. IfSome found (λ article.
+        IsUnknownLine line.now article.name.now article.token article.id)) }
+    ensures malformed { IfOk result (λ found. IfNone found (IsNoUnknownLine line.now)) }
 {
     if line.len() > LINE_MAX_OCTETS {
-        return Ok(false);
+        return Ok(None);
     }
     let Some((name, rest)) = next_word(line) else {
-        return Ok(false);
+        return Ok(None);
     };
     if !PeerNameForm::holds(name) {
-        return Ok(false);
+        return Ok(None);
     }
-    add_article(out, name, b"~unknown", rest)
+    read_article(alloc, name, rest)
+}
+
+/// Adds the line of the list for an article of this file.
+///
+/// # Errors
+/// Memory was refused.
+pub(crate) fn add_article(
+    out: &mut Vec<u8>,
+    owed: Owed<'_>,
+    article: &Article<'_>,
+) -> Result<(), AllocError>
+    ensures { OnOk result (out.new.items ≡ out.old.items
+        ++ owed_text article.now.name.now (place_of owed.entry) article.now.token article.now.id) }
+{
+    let place = owed.place();
+    add_owed(
+        out,
+        article.name,
+        place,
+        article.token.bytes(),
+        article.id.bytes(),
+    )
 }
 
 // Adds `NAME PLACE TOKEN ID` and an LF.
@@ -95,7 +136,11 @@ fn add_owed(
     Ok(())
 }
 
-fn add_word(out: &mut Vec<u8>, word: &[u8]) -> Result<(), AllocError>
+/// Adds a word and a space.
+///
+/// # Errors
+/// Memory was refused.
+pub(crate) fn add_word(out: &mut Vec<u8>, word: &[u8]) -> Result<(), AllocError>
     ensures { OnOk result (out.new.items ≡ out.old.items ++ (word.now ++ codes " ")) }
 {
     out.extend_from_slice(word)?;

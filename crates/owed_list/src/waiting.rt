@@ -1,13 +1,12 @@
 // What is logged of the files of strangers.
 use crate::directory::Directory;
-use crate::kept::{KeptFault, list_lines};
+use crate::kept::{ArticleLines, KeptFault, take_articles};
 use crate::lines::{Owed, waiting_line};
 use crate::strangers::{FIRST_FILE, KEPT_FILE};
 use crate::unread::UnreadTape;
 use feed_conf::PeerConf;
 use funnel::PeerName;
 use log::{Log, warn};
-use recovery::TapeFault;
 use std::fmt::Display;
 use std::fs::File;
 use std::rt::Files;
@@ -67,10 +66,7 @@ fn count_debts<F: AllocGlobal + Files<File = File>>(
     name: &[u8],
 ) -> Result<u64, UnreadTape> {
     let tape = directory.open_tape(name)?;
-    match tape.keys() {
-        Ok(keys) => Ok(keys.len() as u64),
-        Err(_) => Err(UnreadTape::Fault(TapeFault::NoMemory)),
-    }
+    Ok(tape.totals().owed)
 }
 
 fn log_kept<R: Log, F: AllocGlobal + Files<File = File>>(
@@ -81,13 +77,16 @@ fn log_kept<R: Log, F: AllocGlobal + Files<File = File>>(
     let Ok(path) = directory.path_of(name, KEPT_FILE) else {
         return;
     };
-    let owed = Owed::Kept(name);
-    match list_lines(
-        directory.alloc,
+    let alloc = directory.alloc;
+    let mut sink = io::sink();
+    let mut nowhere = ArticleLines::new(alloc, &mut sink);
+    match take_articles(
+        alloc,
         directory.files,
         &path,
-        owed,
-        &mut io::sink(),
+        Owed::Kept(name),
+        &[],
+        &mut nowhere,
     ) {
         Ok(counts) => log_waiting(rt, directory, name, KEPT_FILE, counts.listed),
         Err(KeptFault::Unread(unread)) => log_unread(rt, name, KEPT_FILE, &unread.reason),

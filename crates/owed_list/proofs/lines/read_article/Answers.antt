@@ -2,14 +2,10 @@
 use Rattle.std.proofs.Common.{◌≢◌, refl, rules}
 use Rattle.funnel.specs.declared.line.LineFault.TheVariants.{NoMemory}
 use Rattle.owed_list.proofs.Articles.{no_article}
-use Rattle.owed_list.proofs.lines.add_article.Goals as goal
+use Rattle.owed_list.proofs.lines.read_article.Goals as goal
 
-pub returns-in-Err : goal.returns-in-Err
-returns-in-Err c =
+pub returns-in-Err-clause-malformed : goal.returns-in-Err-clause-malformed
+returns-in-Err-clause-malformed c =
     let e = c.in-Err.ensures in
     let other : c.in-Err.field-0 ≢ NoMemory = search rules in
-    record {
-      good = tt;
-      malformed =
-          (no_article c.in-Err.field-0 c.args.line.now _ refl e.too_long e.no_token e.bad_token e.bad_id other, refl);
-    }
+    no_article c.in-Err.field-0 c.args.line.now _ refl e.too_long e.no_token e.bad_token e.bad_id other
