@@ -103,7 +103,7 @@ impl Display for CloseReason<'_> {
                 None => write!(f, "the article cannot be read: {error}"),
             },
             (ObservedEnd::Unread(None), _) => f.write_str("the article cannot be read"),
-            (ObservedEnd::NoSpool, _) => f.write_str("the news-spool directory is missing"),
+            (ObservedEnd::NoSpool, _) => f.write_str("the directory of articles is missing"),
             (ObservedEnd::NoneFound, _) => f.write_str("news-spool has none of its articles"),
             (ObservedEnd::ByUs, _) => f.write_str("given up here"),
             (ObservedEnd::Fault(error), Some(Reason::Broken)) => write!(f, "{error}"),

@@ -87,10 +87,14 @@ impl Display for HowOver<'_> {
     }
 }
 
-/// A peer is down, for this reason. The slot that failed is tried again after so many seconds. This is a warning, as is
-/// the end of it: an administrator wants to know which peers get nothing.
+/// A peer is down, for this reason. The slot that failed is tried again after so many seconds; with 0 it is tried now.
+/// This is a warning, as is the end of it: an administrator wants to know which peers get nothing.
 pub(crate) fn log_down<R: Log>(rt: &R, name: &str, reason: &str, wait: u64) {
-    warn!(rt; "{} is down: {}; next try in {} s", name, reason, wait);
+    if wait == 0 {
+        warn!(rt; "{} is down: {}; next try now", name, reason);
+    } else {
+        warn!(rt; "{} is down: {}; next try in {} s", name, reason, wait);
+    }
 }
 
 /// It was logged that a peer is down, and it has agreed to a mode.
@@ -239,7 +243,8 @@ pub(crate) fn log_none_found<R: Log>(rt: &R, path: &str, count: usize) {
 
 // What to do about a spool in which no article was found.
 const CURE: &str =
-    ": news-spool has to be the directory of the copies, not innd's spool; --expired drops what is missing";
+    ": news-spool has to be the directory of the copies, innd's own spool is innd-spool; \
+    --expired drops what is missing";
 
 /// The article under a token can't be read from its file in the spool at this path. If there was no file descriptor
 /// left for it, that is said instead. It is a warning the first time that it makes the run fail.
