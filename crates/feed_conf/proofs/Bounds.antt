@@ -24,6 +24,7 @@ use Rattle.feed_conf.specs.declared.key.SettingKey.TheVariants.{InitialReconnect
 use Rattle.feed_conf.specs.declared.key.SettingKey.TheVariants.{BacklogLimit, BacklogLimitHighwater, BacklogFactor}
 use Rattle.feed_conf.specs.declared.key.SettingKey.TheVariants.{NewsSpool}
 use Rattle.feed_conf.specs.declared.key.SettingKey.TheVariants.{BacklogDirectory, StatusFile, UnknownLimit}
+use Rattle.feed_conf.specs.declared.key.SettingKey.TheVariants.{InndSpool, InndCycbuffs}
 use Rattle.feed_conf.specs.declared.key.Kind.{Kind}
 use Rattle.feed_conf.specs.declared.key.Kind.TheVariants.{AnyText, ShortText, Switch, Connections, Number, Whole}
 use Rattle.feed_conf.specs.declared.key.Kind.TheVariants.{Fraction}
@@ -254,6 +255,8 @@ index-key NewsSpool = refl
 index-key BacklogDirectory = refl
 index-key StatusFile = refl
 index-key UnknownLimit = refl
+index-key InndSpool = refl
+index-key InndCycbuffs = refl
 
 -- no two keys have one index
 index-once : (one other : SettingKey) → (row_of one).index ≡ (row_of other).index → one ≡ other
@@ -281,6 +284,8 @@ default-within NewsSpool name = omega arith
 default-within BacklogDirectory name = omega arith
 default-within StatusFile name = omega arith
 default-within UnknownLimit name = omega arith
+default-within InndSpool name = omega arith
+default-within InndCycbuffs name = omega arith
 
 -- the value, if there is one, is at most the greatest of the key
 abbrev IsWithin : SettingKey → Option Value → Type 0

@@ -1,4 +1,5 @@
--- Messages on settings that are ignored or limited, and on a configuration without peers (docs/MANUAL.md).
+-- Messages on settings that are ignored, limited or without effect, and on a configuration without peers
+-- (docs/MANUAL.md).
 use Rattle.std.specs.Prelude.{◌&&◌, ◌||◌, ℕ, Bool, true, false, List, [], ◌∷◌, ◌++◌, Option, None, Some}
 use Rattle.std.specs.Prelude.{codes, flat_map, if◌then◌else◌}
 use Rattle.std.specs.Str.{bytes_eq}
@@ -136,6 +137,16 @@ advice_text report false = codes ": ignored; " ++ effect_text report.key report.
 abbrev pub report_text : (file : List ℕ) → Report → List ℕ
 report_text file report = place_text file report.line ++ report.key ++ advice_text report report.limited ++ 10 ∷ []
 
+-- the line on a list of CNFS buffers without innd's spool
+abbrev pub lone_cycbuffs_text : (file : List ℕ) → List ℕ
+lone_cycbuffs_text file = file ++ codes ": innd-cycbuffs has no effect without innd-spool" ++ 10 ∷ []
+
+-- the line on innd's spool and its list of CNFS buffers: the latter is used only beside the former
+abbrev pub cycbuffs_text : (file : List ℕ) → (spool cycbuffs : Option (List ℕ)) → List ℕ
+cycbuffs_text file None (Some cycbuffs) = lone_cycbuffs_text file
+cycbuffs_text file None None = []
+cycbuffs_text file (Some spool) cycbuffs = []
+
 -- the line on a configuration without peers
 abbrev pub no_peers_text : (file : List ℕ) → List ℕ
 no_peers_text file = file ++ codes ": no peers; nothing will be fed" ++ 10 ∷ []
@@ -145,6 +156,9 @@ abbrev pub peers_text : (file : List ℕ) → List Settings → List ℕ
 peers_text file [] = no_peers_text file
 peers_text file (peer ∷ peers) = []
 
--- the lines on settings: one for each that is ignored or limited, in reading order, and one if there are no peers
+-- The lines on settings: one for each that is ignored or limited, in reading order, one if innd's list of CNFS
+-- buffers is given without its spool, and one if there are no peers.
 abbrev pub advice : (file : List ℕ) → Outcome → List ℕ
-advice file outcome = flat_map (report_text file) outcome.reports ++ peers_text file outcome.peers
+advice file outcome =
+    flat_map (report_text file) outcome.reports ++ cycbuffs_text file outcome.innd_spool outcome.innd_cycbuffs
+    ++ peers_text file outcome.peers

@@ -3,7 +3,7 @@ use Rattle.std.specs.Prelude.{◌≡◌, ◌≢◌, ℕ, List, map, Option, Resu
 use Rattle.std.specs.List.{find}
 use Rattle.std.specs.Str.{bytes_eq}
 use Rattle.feed_conf.specs.ReaderView.{report_view}
-use Rattle.feed_conf.specs.Settings.{Settings, Outcome}
+use Rattle.feed_conf.specs.Settings.{Settings, Outcome, path_in}
 use Rattle.feed_conf.specs.PeerView.{settings_view}
 use Rattle.feed_conf.specs.declared.conf.Conf.{Conf}
 use Rattle.feed_conf.specs.declared.fault.ConfFault.{ConfFault}
@@ -15,6 +15,8 @@ conf_view conf = record {
   backlog_directory = conf.backlog_directory.items;
   status_file = conf.status_file.items;
   unknown_limit = conf.unknown_limit;
+  innd_spool = path_in conf.innd_spool.items;
+  innd_cycbuffs = path_in conf.innd_cycbuffs.items;
   peers = map settings_view conf.peers.items;
   reports = map report_view conf.ignored.items;
 }

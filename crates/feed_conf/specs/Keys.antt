@@ -10,6 +10,7 @@ use Rattle.feed_conf.specs.declared.key.SettingKey.TheVariants.{ResponseTimeout,
 use Rattle.feed_conf.specs.declared.key.SettingKey.TheVariants.{MaxReconnectTime, DropDeferred, BacklogLimit}
 use Rattle.feed_conf.specs.declared.key.SettingKey.TheVariants.{BacklogLimitHighwater, BacklogFactor, NewsSpool}
 use Rattle.feed_conf.specs.declared.key.SettingKey.TheVariants.{BacklogDirectory, StatusFile, UnknownLimit}
+use Rattle.feed_conf.specs.declared.key.SettingKey.TheVariants.{InndSpool, InndCycbuffs}
 use Rattle.feed_conf.specs.declared.key.Kind.{Kind}
 use Rattle.feed_conf.specs.declared.key.Kind.TheVariants.{AnyText, ShortText, Switch, Connections, Number, Whole, Fraction}
 
@@ -44,12 +45,16 @@ row_of NewsSpool = record { index = 15; name = codes "news-spool"; kind = AnyTex
 row_of BacklogDirectory = record { index = 16; name = codes "backlog-directory"; kind = AnyText; of_file = true; default = λ peer. TextOf (codes "innfeed") }
 row_of StatusFile = record { index = 17; name = codes "status-file"; kind = AnyText; of_file = true; default = λ peer. TextOf (codes "innfeed.status") }
 row_of UnknownLimit = record { index = 18; name = codes "unknown-limit"; kind = Number 0 4294967296; of_file = true; default = λ peer. NumberOf 67108864 }
+row_of InndSpool =
+    record { index = 19; name = codes "innd-spool"; kind = AnyText; of_file = true; default = λ peer. TextOf [] }
+row_of InndCycbuffs =
+    record { index = 20; name = codes "innd-cycbuffs"; kind = AnyText; of_file = true; default = λ peer. TextOf [] }
 
 abbrev pub all_keys : List SettingKey
 all_keys =
     IpName ∷ PortNumber ∷ Streaming ∷ MaxConnections ∷ MaxQueueSize ∷ NoCheckHigh ∷ NoCheckLow ∷ NoCheckFilter
     ∷ ResponseTimeout ∷ InitialReconnectTime ∷ MaxReconnectTime ∷ DropDeferred ∷ BacklogLimit ∷ BacklogLimitHighwater
-    ∷ BacklogFactor ∷ NewsSpool ∷ BacklogDirectory ∷ StatusFile ∷ UnknownLimit ∷ []
+    ∷ BacklogFactor ∷ NewsSpool ∷ BacklogDirectory ∷ StatusFile ∷ UnknownLimit ∷ InndSpool ∷ InndCycbuffs ∷ []
 
 abbrev pub key_of : List ℕ → Option SettingKey
 key_of name = find (λ key. bytes_eq (row_of key).name name) all_keys

@@ -14,6 +14,7 @@ use Rattle.feed_conf.specs.declared.key.SettingKey.TheVariants.{InitialReconnect
 use Rattle.feed_conf.specs.declared.key.SettingKey.TheVariants.{BacklogLimit, BacklogLimitHighwater, BacklogFactor}
 use Rattle.feed_conf.specs.declared.key.SettingKey.TheVariants.{NewsSpool}
 use Rattle.feed_conf.specs.declared.key.SettingKey.TheVariants.{BacklogDirectory, StatusFile, UnknownLimit}
+use Rattle.feed_conf.specs.declared.key.SettingKey.TheVariants.{InndSpool, InndCycbuffs}
 use Rattle.feed_conf.specs.declared.fault.ConfFault.{ConfFault}
 use Rattle.feed_conf.specs.declared.fault.ConfFaultKind.TheVariants.{LowAboveHigh}
 
@@ -78,6 +79,11 @@ text (TextOf octets) = octets
 text (SwitchOf on) = []
 text (NumberOf number) = []
 
+-- the path that a text is; an empty text is none
+abbrev pub path_in : List ℕ → Option (List ℕ)
+path_in [] = None
+path_in (octet ∷ octets) = Some (octet ∷ octets)
+
 -- The high water of a backlog: as written, or if that is 0 the limit times the factor, rounded down. The factor is in
 -- hundredths.
 abbrev pub high_water : ℕ → ℕ → ℕ → ℕ
@@ -135,6 +141,9 @@ pub record Outcome : Type 0 where
   pub status_file : List ℕ
   -- the most octets that are kept of lines that name unknown peers
   pub unknown_limit : ℕ
+  -- innd's spool and its list of CNFS buffers, if they are given
+  pub innd_spool : Option (List ℕ)
+  pub innd_cycbuffs : Option (List ℕ)
   -- the peers in the order of their declarations
   pub peers : List Settings
   -- what is ignored or limited, in reading order
@@ -146,6 +155,8 @@ outcome_of state = record {
   backlog_directory = text (value_in_file state.uses BacklogDirectory);
   status_file = text (value_in_file state.uses StatusFile);
   unknown_limit = number (value_in_file state.uses UnknownLimit);
+  innd_spool = path_in (text (value_in_file state.uses InndSpool));
+  innd_cycbuffs = path_in (text (value_in_file state.uses InndCycbuffs));
   peers = map (settings_of state.uses state.outer) state.peers;
   reports = state.reports;
 }

@@ -1,10 +1,13 @@
-// Messages on settings that are ignored or limited, and on a configuration without peers (docs/MANUAL.md).
+// Messages on settings that are ignored, limited or without effect, and on a configuration without peers
+// (docs/MANUAL.md).
 ghost use Rattle.std.specs.Prelude.{◌≡◌, ◌++◌, IfOk, OnOk, flat_map, map};
-ghost use Rattle.feed_conf.specs.Advice.{advice, advice_text, changed_text, effect_text, foreign_text, is_closing};
-ghost use Rattle.feed_conf.specs.Advice.{is_address, is_default_address, is_default_growth, is_default_time};
-ghost use Rattle.feed_conf.specs.Advice.{is_default_water, is_growth, is_import, is_inn_default, is_ten_minutes};
-ghost use Rattle.feed_conf.specs.Advice.{is_house, is_login, is_mail, is_off_by_default, is_source, is_timing};
-ghost use Rattle.feed_conf.specs.Advice.{no_peers_text, peers_text, report_text};
+ghost use Rattle.std.specs.Option.{option_map};
+ghost use Rattle.feed_conf.specs.Advice.{advice, advice_text, changed_text, cycbuffs_text, effect_text, foreign_text};
+ghost use Rattle.feed_conf.specs.Advice.{is_address, is_closing, is_default_address, is_default_growth};
+ghost use Rattle.feed_conf.specs.Advice.{is_default_time, is_default_water, is_growth, is_import, is_inn_default};
+ghost use Rattle.feed_conf.specs.Advice.{is_house, is_login, is_mail, is_off_by_default, is_source};
+ghost use Rattle.feed_conf.specs.Advice.{is_ten_minutes, is_timing, lone_cycbuffs_text, no_peers_text, peers_text};
+ghost use Rattle.feed_conf.specs.Advice.{report_text};
 ghost use Rattle.feed_conf.specs.ConfView.{conf_view};
 ghost use Rattle.feed_conf.specs.Keys.{key_of};
 ghost use Rattle.feed_conf.specs.PeerView.{settings_view};
@@ -18,7 +21,8 @@ use crate::value::spells_false;
 use std::alloc::{AllocError, Global};
 
 /// The messages on `conf`, which was read from `file`: one for each setting that is ignored or limited, in reading
-/// order, with what that means for the feed, and one if there are no peers. Empty if there is nothing to report.
+/// order, with what that means for the feed, one if innd's list of CNFS buffers is given without its spool, and one if
+/// there are no peers. Empty if there is nothing to report.
 ///
 /// # Errors
 /// Memory was refused.
@@ -30,6 +34,7 @@ pub fn advise(alloc: Global, file: &[u8], conf: &Conf) -> Result<Vec<u8>, AllocE
     for report in reports {
         add_report(&mut lines, file, report)?;
     }
+    add_cycbuffs(&mut lines, file, conf.innd_spool(), conf.innd_cycbuffs())?;
     add_peers(&mut lines, file, conf.peers())?;
     Ok(lines)
 }
@@ -48,6 +53,33 @@ fn add_report(out: &mut Vec<u8>, file: &[u8], report: &Ignored) -> Result<(), Al
         out.push(b'\n')?;
         Ok(())
     }
+}
+
+// The list of CNFS buffers is used only beside innd's spool.
+fn add_cycbuffs(
+    out: &mut Vec<u8>,
+    file: &[u8],
+    spool: Option<&[u8]>,
+    cycbuffs: Option<&[u8]>,
+) -> Result<(), AllocError>
+    ensures { OnOk result (out.new.items ≡ out.old.items
+        ++ cycbuffs_text file.now (option_map (λ path. path.now) spool.entry)
+        (option_map (λ path. path.now) cycbuffs.entry)) }
+{
+    match (spool, cycbuffs) {
+        (None, Some(_)) => add_lone_cycbuffs(out, file),
+        (None, None) => Ok(()),
+        (Some(_), _) => Ok(()),
+    }
+}
+
+fn add_lone_cycbuffs(out: &mut Vec<u8>, file: &[u8]) -> Result<(), AllocError>
+    ensures { OnOk result (out.new.items ≡ out.old.items ++ lone_cycbuffs_text file.now) }
+{
+    out.extend_from_slice(file)?;
+    out.extend_from_slice(b": innd-cycbuffs has no effect without innd-spool")?;
+    out.push(b'\n')?;
+    Ok(())
 }
 
 fn add_peers(out: &mut Vec<u8>, file: &[u8], peers: &[PeerConf]) -> Result<(), AllocError>

@@ -1,6 +1,8 @@
 // A configuration, as the crates above see it.
-ghost use Rattle.std.specs.Prelude.{map};
+ghost use Rattle.std.specs.Prelude.{◌≡◌, map};
+ghost use Rattle.std.specs.Option.{option_map};
 ghost use Rattle.feed_conf.specs.PeerView.{FindsNames, settings_view};
+ghost use Rattle.feed_conf.specs.Settings.{path_in};
 
 use crate::reader::text_of;
 use funnel::PeerName;
@@ -59,10 +61,23 @@ pub struct Conf {
     pub(crate) backlog_directory: Vec<u8>,
     pub(crate) status_file: Vec<u8>,
     pub(crate) unknown_limit: u64,
+    // Empty if it is not given, as is the next one.
+    pub(crate) innd_spool: Vec<u8>,
+    pub(crate) innd_cycbuffs: Vec<u8>,
     pub(crate) peers: Vec<PeerConf>,
     pub(crate) ignored: Vec<Ignored>,
     pub(crate) names: BTreeMap<String, usize>,
     ghost named: { FindsNames names (map settings_view peers.items) },
+}
+
+// The path that a text is, unless it is empty.
+fn path_in(text: &[u8]) -> Option<&[u8]>
+    ensures { option_map (λ path. path.now) result ≡ path_in text.now }
+{
+    match text {
+        [] => None,
+        [_, ..] => Some(text),
+    }
 }
 
 impl Conf {
@@ -133,5 +148,19 @@ impl Conf {
         ensures { result ≡ (conf_view self.now).unknown_limit }
     {
         self.unknown_limit
+    }
+
+    /// innd's spool (`pathspool` of inn.conf(5)), if it is given and not empty.
+    pub fn innd_spool(&self) -> Option<&[u8]>
+        ensures { option_map (λ path. path.now) result ≡ (conf_view self.now).innd_spool }
+    {
+        path_in(&self.innd_spool)
+    }
+
+    /// innd's list of CNFS buffers (cycbuff.conf(5)), if it is given and not empty.
+    pub fn innd_cycbuffs(&self) -> Option<&[u8]>
+        ensures { option_map (λ path. path.now) result ≡ (conf_view self.now).innd_cycbuffs }
+    {
+        path_in(&self.innd_cycbuffs)
     }
 }

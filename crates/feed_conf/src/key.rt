@@ -68,9 +68,13 @@ pub(crate) enum SettingKey {
     StatusFile,
     /// The most octets that are kept of lines that name unknown peers.
     UnknownLimit,
+    /// innd's spool, INN's `pathspool`.
+    InndSpool,
+    /// innd's list of CNFS buffers, INN's cycbuff.conf.
+    InndCycbuffs,
 }
 
-const KEYS: [SettingKey; 19] = [
+const KEYS: [SettingKey; 21] = [
     SettingKey::IpName,
     SettingKey::PortNumber,
     SettingKey::Streaming,
@@ -90,6 +94,8 @@ const KEYS: [SettingKey; 19] = [
     SettingKey::BacklogDirectory,
     SettingKey::StatusFile,
     SettingKey::UnknownLimit,
+    SettingKey::InndSpool,
+    SettingKey::InndCycbuffs,
 ];
 
 #[derive(Clone, Copy)]
@@ -223,6 +229,8 @@ impl SettingKey {
             SettingKey::BacklogDirectory => file_text(16, b"backlog-directory", b"innfeed"),
             SettingKey::StatusFile => file_text(17, b"status-file", b"innfeed.status"),
             SettingKey::UnknownLimit => file_number(18, b"unknown-limit", OCTETS, 67_108_864),
+            SettingKey::InndSpool => file_text(19, b"innd-spool", b""),
+            SettingKey::InndCycbuffs => file_text(20, b"innd-cycbuffs", b""),
         }
     }
 

@@ -27,6 +27,8 @@ fn make_conf(alloc: Global, reader: Reader<'_>) -> Result<Conf, ConfFault>
     let backlog_directory = table.file_text(alloc, SettingKey::BacklogDirectory)?;
     let status_file = table.file_text(alloc, SettingKey::StatusFile)?;
     let unknown_limit = table.file_number(SettingKey::UnknownLimit);
+    let innd_spool = table.file_text(alloc, SettingKey::InndSpool)?;
+    let innd_cycbuffs = table.file_text(alloc, SettingKey::InndCycbuffs)?;
     let Reader {
         alloc: _,
         around: _,
@@ -42,6 +44,8 @@ fn make_conf(alloc: Global, reader: Reader<'_>) -> Result<Conf, ConfFault>
         backlog_directory,
         status_file,
         unknown_limit,
+        innd_spool,
+        innd_cycbuffs,
         peers,
         ignored,
         names,
