@@ -1,6 +1,6 @@
 -- The text of a configuration with all its settings in force, in the form of innfeed.conf(5).
 use Rattle.std.specs.Prelude.{◌+◌, ◌-◌, ◌*◌, ◌/◌, ◌%◌, ◌&&◌, ◌==◌, ℕ, Bool, true, false, List, [], ◌∷◌, ◌++◌, codes}
-use Rattle.std.specs.Prelude.{decimal, flat_map, length, nat_le, nat_lt, not, if◌then◌else◌}
+use Rattle.std.specs.Prelude.{Option, None, Some, decimal, flat_map, length, nat_le, nat_lt, not, if◌then◌else◌}
 use Rattle.std.specs.List.{list_all}
 use Rattle.feed_conf.specs.Lexemes.{is_word_octet}
 use Rattle.feed_conf.specs.Settings.{Outcome, Settings}
@@ -34,7 +34,17 @@ abbrev pub fraction_value : ℕ → List ℕ
 fraction_value hundredths =
     decimal (hundredths / 100) ++ codes "." ++ decimal (hundredths / 10 % 10) ++ decimal (hundredths % 10)
 
--- the settings of the file
+-- a path of the file, if it is given
+abbrev pub path_text : (key : List ℕ) → (path : Option (List ℕ)) → List ℕ
+path_text key None = []
+path_text key (Some path) = line outside key (text_value path)
+
+-- the paths of innd, if they are given
+abbrev pub innd_text : Outcome → List ℕ
+innd_text outcome =
+    path_text (codes "innd-spool") outcome.innd_spool ++ path_text (codes "innd-cycbuffs") outcome.innd_cycbuffs
+
+-- the settings of the file, without the paths of innd
 abbrev pub file_text : Outcome → List ℕ
 file_text outcome =
     line outside (codes "news-spool") (text_value outcome.news_spool)
@@ -98,4 +108,4 @@ peer_text peer = head_text peer.name ++ connections_text peer ++ check_text peer
 
 -- The settings of the file, each with its value in force, and then each peer's block with all its settings.
 abbrev pub conf_text : Outcome → List ℕ
-conf_text outcome = file_text outcome ++ flat_map peer_text outcome.peers
+conf_text outcome = file_text outcome ++ innd_text outcome ++ flat_map peer_text outcome.peers

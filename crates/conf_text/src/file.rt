@@ -1,6 +1,7 @@
 // The settings of the file, and its peers.
 ghost use Rattle.std.specs.Prelude.{◌≡◌, ◌++◌, IfOk, OnOk, flat_map, map};
-ghost use Rattle.conf_text.specs.ConfText.{conf_text, file_text, peer_text};
+ghost use Rattle.std.specs.Option.{option_map};
+ghost use Rattle.conf_text.specs.ConfText.{conf_text, file_text, innd_text, path_text, peer_text};
 ghost use Rattle.feed_conf.specs.ConfView.{conf_view};
 ghost use Rattle.feed_conf.specs.PeerView.{settings_view};
 
@@ -19,6 +20,7 @@ pub fn conf_text(alloc: Global, conf: &Conf) -> Result<Vec<u8>, AllocError>
 {
     let mut text = Vec::new(alloc);
     add_file(&mut text, conf)?;
+    add_innd(&mut text, conf)?;
     add_peers(&mut text, conf.peers())?;
     Ok(text)
 }
@@ -31,6 +33,25 @@ fn add_file(out: &mut Vec<u8>, conf: &Conf) -> Result<(), AllocError>
     add_text(out, b"", b"status-file", conf.status_file())?;
     add_number(out, b"", b"unknown-limit", conf.unknown_limit())?;
     Ok(())
+}
+
+fn add_innd(out: &mut Vec<u8>, conf: &Conf) -> Result<(), AllocError>
+    ensures { OnOk result (out.new.items ≡ out.old.items ++ innd_text (conf_view conf.now)) }
+{
+    add_path(out, b"innd-spool", conf.innd_spool())?;
+    add_path(out, b"innd-cycbuffs", conf.innd_cycbuffs())?;
+    Ok(())
+}
+
+// A path, if it is given.
+fn add_path(out: &mut Vec<u8>, key: &[u8], path: Option<&[u8]>) -> Result<(), AllocError>
+    ensures { OnOk result (out.new.items
+        ≡ out.old.items ++ path_text key.now (option_map (λ path. path.now) path.entry)) }
+{
+    match path {
+        None => Ok(()),
+        Some(path) => add_text(out, b"", key, path),
+    }
 }
 
 fn add_peers(out: &mut Vec<u8>, peers: &[PeerConf]) -> Result<(), AllocError>
