@@ -9,7 +9,7 @@ use crate::lines::{
 use crate::replies::put_replies;
 use crate::reports::put_report;
 use crate::segment_names::{put_added, put_name, put_place, put_sides};
-use crate::settings::{put_fault, put_names, put_numbers, put_settings};
+use crate::settings::{put_fault, put_innd, put_names, put_numbers, put_settings};
 use article_store::MemArticles;
 use funnel::LineCutter;
 use std::alloc::{AllocError, Global};
@@ -45,6 +45,7 @@ pub fn answer(
     match (call, arguments) {
         ("numbers", [conf, peer]) => put_numbers(answer, conf, peer),
         ("settings", [conf]) => put_settings(answer, conf),
+        ("innd", [conf]) => put_innd(answer, conf),
         ("into-peers", [conf]) => put_names(answer, conf),
         ("place", [_, ..]) => put_place(answer, arguments),
         ("sides", [_, ..]) => put_sides(answer, arguments),

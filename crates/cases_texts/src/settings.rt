@@ -70,6 +70,22 @@ fn put_texts(answer: &mut Vec<u8>, conf: &Conf) -> Result<(), AllocError> {
     Ok(())
 }
 
+/// The paths of innd that a configuration gives, each after what it is.
+pub fn put_innd(answer: &mut Vec<u8>, text: &[u8]) -> Result<(), RowFault> {
+    let conf = conf_in(*answer.allocator(), text)?;
+    put_path(answer, b"spool", conf.innd_spool())?;
+    put_path(answer, b"cycbuffs", conf.innd_cycbuffs())?;
+    Ok(())
+}
+
+fn put_path(answer: &mut Vec<u8>, what: &[u8], path: Option<&[u8]>) -> Result<(), AllocError> {
+    if let Some(path) = path {
+        put(answer, what)?;
+        put(answer, path)?;
+    }
+    Ok(())
+}
+
 fn put_uses(answer: &mut Vec<u8>, conf: &Conf) -> Result<(), AllocError> {
     for report in conf.ignored() {
         put(
