@@ -32,7 +32,8 @@ pub fn read_peer(alloc: Global, declaration: &[u8]) -> Result<Option<PeerConf>, 
     }
 }
 
-fn split_peer(declaration: &[u8]) -> (&[u8], &[u8])
+/// Splits the text after `peer `: the name, and the items after its space, if there are any.
+pub fn split_peer(declaration: &[u8]) -> (&[u8], &[u8])
     ensures parts { IsNamedWith declaration.now result.0.now result.1.now }
     ensures solid { IsSolid result.0.now }
 {
@@ -42,8 +43,11 @@ fn split_peer(declaration: &[u8]) -> (&[u8], &[u8])
     }
 }
 
-// The block of a peer's settings, on one line.
-fn write_peer(alloc: Global, name: &[u8], items: &[u8]) -> Result<Vec<u8>, AllocError>
+/// The block of a peer's settings, on one line.
+///
+/// # Errors
+/// Memory was refused.
+pub fn write_peer(alloc: Global, name: &[u8], items: &[u8]) -> Result<Vec<u8>, AllocError>
     ensures { IfOk result (λ text. text.items ≡ peer_text name.now items.now) }
 {
     let mut text = Vec::new(alloc);
