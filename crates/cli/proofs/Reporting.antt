@@ -18,7 +18,7 @@ pub has_line : (fault : OrderFault) → (line : Option (List ℕ)) × IsLineOf f
 has_line NoMemory = (None, refl)
 has_line (Config fault more) = (Some (config_text fault ++ more.items), refl)
 has_line (Checked lines) = (Some lines.items, refl)
-has_line (Refused source refusal) = (Some (refusal_text source.now refusal), refl)
+has_line (Refused source refusal more) = (Some (refusal_text source.now refusal ++ more.items), refl)
 has_line (NoTape refusal) = (Some (no_tape_text refusal), refl)
 has_line (Unread path error) = (Some (unread_lines path.now []), ([], refl))
 has_line (Input error) = (Some (input_text []), ([], refl))

@@ -1,6 +1,6 @@
 -- What each order comes to: its exit status, what is on standard output, and the line on standard error, if any
 -- (docs/MANUAL.md).
-use Rattle.std.specs.Prelude.{◌≡◌, ◌⊎◌, ◌++◌, ℕ, Bool, List, Option, None, Some, Result, Ok, Err, OnOk, IfSome}
+use Rattle.std.specs.Prelude.{◌≡◌, ◌⊎◌, ◌++◌, ℕ, Bool, List, [], Option, None, Some, Result, Ok, Err, OnOk, IfSome}
 use Rattle.std.specs.Prelude.{codes, string_bytes}
 use Rattle.std.specs.Io.KnownBytes.{Appends, Keeps}
 use Rattle.std.specs.declared.io.Error.{Error}
@@ -8,6 +8,9 @@ use Rattle.drill.specs.Drill.{Drills}
 use Rattle.drill.specs.declared.ending.Ending.{Ending}
 use Rattle.drill.specs.declared.ending.Ending.TheVariants.{Done as AllTaken, Refused as LineRefused}
 use Rattle.drill.specs.declared.ending.Ending.TheVariants.{NoTape as TapeRefused, NoMemory as WantsMemory}
+use Rattle.drill.specs.declared.ending.Refusal.{Refusal}
+use Rattle.drill.specs.declared.ending.Why.{Why}
+use Rattle.drill.specs.declared.ending.Why.TheVariants.{Script, Step}
 use Rattle.feed_conf.specs.Reading.{HaveLexemes, lines_of}
 use Rattle.feed_conf.specs.Settings.{Outcome, meaning}
 use Rattle.feed_conf.specs.Lexemes.{Lexeme}
@@ -22,6 +25,7 @@ use Rattle.cli.specs.Lines.{config_text, refusal_text, no_tape_text, unread_line
 use Rattle.cli.specs.Lines.{mistake_text, stranger_text}
 use Rattle.cli.specs.Strangers.{stranger_of}
 use Rattle.conf_text.specs.ConfText.{conf_text}
+use Rattle.script_fault_text.specs.FaultText.{AreOn, line_at}
 use Rattle.cli.specs.declared.exit.Exit.{Exit}
 use Rattle.cli.specs.declared.exit.Exit.TheVariants.{Done, Refused, Usage, Unreadable, NoMemory}
 use Rattle.feed_ends.specs.declared.feed_end.FeedEnd.{FeedEnd}
@@ -62,20 +66,29 @@ PrintsBeside said text old new exit line =
 abbrev pub Prints : List ℕ → Option (List ℕ) → Option (List ℕ) → Exit → Option (List ℕ) → Type 0
 Prints = PrintsBeside None
 
--- the line that reports the ending of a drill whose script has this source: which line or which peer's tape was
--- refused, and why
-abbrev pub line_of_ending : List ℕ → Ending → Option (List ℕ)
-line_of_ending source AllTaken = None
-line_of_ending source (LineRefused refusal) = Some (refusal_text source refusal)
-line_of_ending source (TapeRefused refusal) = Some (no_tape_text refusal)
-line_of_ending source WantsMemory = None
+-- the lines that explain why a line of a script was refused: none if it is the step that was
+abbrev pub AreOnWhy : (source script : List ℕ) → (number : ℕ) → Why → (lines : List ℕ) → Type 0
+AreOnWhy source script number (Script reason) lines = AreOn source number (line_at script number) reason lines
+AreOnWhy source script number (Step fault) lines = lines ≡ []
+
+abbrev pub AreOnRefusal : (source script : List ℕ) → Refusal → (lines : List ℕ) → Type 0
+AreOnRefusal source script refusal lines = AreOnWhy source script refusal.line refusal.why lines
+
+-- the lines that report the ending of a drill whose script has this source: which line or which peer's tape was
+-- refused, and why, with the explanation
+abbrev pub ReportsEnding : (source script : List ℕ) → Ending → Option (List ℕ) → Type 0
+ReportsEnding source script AllTaken line = line ≡ None
+ReportsEnding source script (LineRefused refusal) line =
+    (more : List ℕ) × AreOnRefusal source script refusal more × (line ≡ Some (refusal_text source refusal ++ more))
+ReportsEnding source script (TapeRefused refusal) line = line ≡ Some (no_tape_text refusal)
+ReportsEnding source script WantsMemory line = line ≡ None
 
 -- The script was run: standard output gets what it prints, and the status and the line report its ending; or standard
 -- output could not be written.
 abbrev pub Runs : (text source : List ℕ) → Option (List ℕ) → Option (List ℕ) → Exit → Option (List ℕ) → Type 0
 Runs text source old new exit line =
     ((ending : Ending) × Drills (Some text) old new ending × (exit ≡ exit_of ending)
-    × (line ≡ line_of_ending source ending))
+    × ReportsEnding source text ending line)
     ⊎ LosesOutput exit line
     ⊎ LacksMemory exit line
 

@@ -21,7 +21,7 @@ abbrev pub exit_of_fault : OrderFault → Exit
 exit_of_fault NoMemory = ExitNoMemory
 exit_of_fault (Config fault more) = Refused
 exit_of_fault (Checked lines) = Done
-exit_of_fault (ScriptRefused source refusal) = Refused
+exit_of_fault (ScriptRefused source refusal more) = Refused
 exit_of_fault (NoTape refusal) = Tape
 exit_of_fault (Unread path error) = Unreadable
 exit_of_fault (Input error) = Unreadable
@@ -36,7 +36,7 @@ abbrev pub fault_count : OrderFault → ℕ
 fault_count NoMemory = 2 ^ 64 - 1
 fault_count (Config fault more) = 2 ^ 64 - 1
 fault_count (Checked lines) = 0
-fault_count (ScriptRefused source refusal) = 2 ^ 64 - 1
+fault_count (ScriptRefused source refusal more) = 2 ^ 64 - 1
 fault_count (NoTape refusal) = 2 ^ 64 - 1
 fault_count (Unread path error) = 2 ^ 64 - 1
 fault_count (Input error) = 2 ^ 64 - 1
@@ -50,7 +50,7 @@ abbrev pub IsLineOf : OrderFault → Option (List ℕ) → Type 0
 IsLineOf NoMemory line = line ≡ None
 IsLineOf (Config fault more) line = line ≡ Some (config_text fault ++ more.items)
 IsLineOf (Checked lines) line = line ≡ Some lines.items
-IsLineOf (ScriptRefused source refusal) line = line ≡ Some (refusal_text source.now refusal)
+IsLineOf (ScriptRefused source refusal more) line = line ≡ Some (refusal_text source.now refusal ++ more.items)
 IsLineOf (NoTape refusal) line = line ≡ Some (no_tape_text refusal)
 IsLineOf (Unread path error) line = (reason : List ℕ) × (line ≡ Some (unread_lines path.now reason))
 IsLineOf (Input error) line = (reason : List ℕ) × (line ≡ Some (input_text reason))

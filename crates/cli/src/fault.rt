@@ -29,11 +29,18 @@ pub enum OrderFault<'a> {
     /// Memory was refused. Nothing is printed.
     NoMemory,
     /// The configuration has this fault, and `more` explains it.
-    Config { fault: ConfFault, more: Vec<u8> },
+    Config {
+        fault: ConfFault,
+        more: Vec<u8>,
+    },
     /// A configuration has no fault, and this is the advice on its settings.
     Checked(Vec<u8>),
-    /// A line of the script from this source was refused.
-    Refused(&'a str, Refusal),
+    /// A line of the script from this source was refused, and `more` explains it.
+    Refused {
+        source: &'a str,
+        refusal: Refusal,
+        more: Vec<u8>,
+    },
     /// The tape of a peer of a script was refused.
     NoTape(TapeRefusal),
     /// The file at this path cannot be read, for this reason.
@@ -45,7 +52,10 @@ pub enum OrderFault<'a> {
     /// This is wrong with the arguments.
     Mistake(String),
     /// What a name is owed was asked for, but it is no peer of the configuration in the file at `path`.
-    Stranger { name: &'a str, path: &'a str },
+    Stranger {
+        name: &'a str,
+        path: &'a str,
+    },
     /// A feed, or a list of what is owed, ended like this.
     Fed(FeedEnd),
 }
@@ -94,7 +104,7 @@ impl<'a> OrderFault<'a> {
     {
         match self {
             OrderFault::NoMemory => Exit::NoMemory,
-            OrderFault::Config { .. } | OrderFault::Refused(_, _) => Exit::Refused,
+            OrderFault::Config { .. } | OrderFault::Refused { .. } => Exit::Refused,
             OrderFault::Checked(_) => Exit::Done,
             OrderFault::NoTape(_) => Exit::Tape,
             OrderFault::Unread(_, _) | OrderFault::Input(_) | OrderFault::Output(_) =>
@@ -128,9 +138,11 @@ impl<'a> OrderFault<'a> {
             OrderFault::NoMemory => Ok(None),
             OrderFault::Config { fault, more } => Ok(Some(config_lines(alloc, fault, more)?)),
             OrderFault::Checked(lines) => Ok(Some(Vec::from_slice(alloc, lines)?)),
-            OrderFault::Refused(source, refusal) => Ok(Some(refusal_line(
-                alloc, source, *refusal,
-            )?)),
+            OrderFault::Refused {
+                source,
+                refusal,
+                more,
+            } => Ok(Some(refusal_lines(alloc, source, *refusal, more)?)),
             OrderFault::NoTape(refusal) => Ok(Some(no_tape_line(alloc, refusal)?)),
             OrderFault::Unread(path, error) => Ok(Some(unread_line(alloc, path, error)?)),
             OrderFault::Input(error) => {
@@ -159,9 +171,15 @@ fn config_lines(alloc: Global, fault: &ConfFault, more: &[u8]) -> Result<Vec<u8>
     Ok(line)
 }
 
-// `FILE: line N: REASON`.
-fn refusal_line(alloc: Global, source: &str, refusal: Refusal) -> Result<Vec<u8>, AllocError>
-    ensures { IfOk result (λ line. line.items ≡ refusal_text source.now refusal) }
+// `FILE: line N: REASON`, and the explanation.
+fn refusal_lines(
+    alloc: Global,
+    source: &str,
+    refusal: Refusal,
+    more: &[u8],
+) -> Result<Vec<u8>, AllocError>
+    ensures { IfOk result
+        (λ lines. lines.items ≡ refusal_text source.now refusal ++ more.now) }
 {
     let mut line = Vec::from_slice(alloc, source.as_bytes())?;
     line.extend_from_slice(b": line ")?;
@@ -169,6 +187,7 @@ fn refusal_line(alloc: Global, source: &str, refusal: Refusal) -> Result<Vec<u8>
     line.extend_from_slice(b": ")?;
     line.extend_from_slice(refusal.why.words().as_bytes())?;
     line.push(b'\n')?;
+    line.extend_from_slice(more)?;
     Ok(line)
 }
 

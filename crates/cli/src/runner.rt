@@ -2,8 +2,8 @@
 ghost use Rattle.std.specs.Prelude.{◌≡◌, ◌≢◌, List, ℕ, Option, IfOk, OnOk, false, option_map};
 ghost use Rattle.std.specs.Io.KnownBytes.{Appends};
 ghost use Rattle.feed_conf.specs.ConfView.{conf_view};
-ghost use Rattle.cli.specs.Ends.{Checks, Does, DrillsFile, DrillsInput, Prints, PrintsBeside, Runs, Reports, Works};
-ghost use Rattle.cli.specs.Ends.{TriesOn, in_force, reported};
+ghost use Rattle.cli.specs.Ends.{AreOnRefusal, Checks, Does, DrillsFile, DrillsInput, Prints, PrintsBeside, Runs};
+ghost use Rattle.cli.specs.Ends.{Reports, TriesOn, Works, in_force, reported};
 ghost use Rattle.cli.specs.Errand.{DoesErrand};
 ghost use Rattle.cli.specs.Feeding.{asks_feeds, feeding_of};
 ghost use Rattle.cli.specs.OrderFault.{Comes, IsLineOf};
@@ -16,10 +16,11 @@ use crate::files::ReadFile;
 use crate::order::Order;
 use crate::strangers::stranger_of;
 use conf_text::conf_text;
-use drill::{Ending, run_script};
+use drill::{Ending, Refusal, Why, run_script};
 use feed_conf::Conf;
 use feed_ends::{FeedEnd, Feeds, Listing, Source};
 use log_writer::LeveledWrite;
+use script_fault_text::explain_fault;
 use std::alloc::{AllocError, Global};
 use std::io::{self, Read, Write};
 
@@ -182,12 +183,34 @@ fn drill<'a, W: Write>(
         (Runs script.now source.now (W.contents out.old) (W.contents out.new))
         result }
 {
-    let mut script = script;
+    let text = script;
+    let mut script = text;
     match run_script(alloc, &mut script, out) {
-        Ok(Ending::Refused(refusal)) => Err(OrderFault::Refused(source, refusal)),
+        Ok(Ending::Refused(refusal)) => Err(OrderFault::Refused {
+            source,
+            refusal,
+            more: more_on(alloc, source, text, refusal)?,
+        }),
         Ok(Ending::NoTape(refusal)) => Err(OrderFault::NoTape(refusal)),
         Ok(ending) => Ok(Exit::from(ending)),
         Err(error) => Err(OrderFault::of_output(error)),
+    }
+}
+
+// The lines that explain why a line of a script was refused; none if it is the step that was.
+fn more_on(
+    alloc: Global,
+    source: &str,
+    script: &[u8],
+    refusal: Refusal,
+) -> Result<Vec<u8>, AllocError>
+    ensures { IfOk result (λ lines. AreOnRefusal source.now script.now refusal lines.items) }
+{
+    match refusal.why {
+        Why::Script(reason) => {
+            explain_fault(alloc, source.as_bytes(), script, refusal.line, reason)
+        }
+        Why::Step(_) => Ok(Vec::new(alloc)),
     }
 }
 

@@ -1,12 +1,12 @@
--- A refused line is reported, and a refused tape.
+-- A refused line is reported, with its explanation, and a refused tape.
 use Rattle.std.proofs.Common.{Some, inl, refl, subst}
 use Rattle.drill.specs.Drill.{Drills}
 use Rattle.drill.specs.declared.ending.Ending.{Ending}
 use Rattle.drill.specs.declared.ending.Ending.TheVariants.{NoTape, Refused}
 use Rattle.cli.proofs.runner.drill.Goals as goal
 
-pub returns-in-Ok-Refused : goal.returns-in-Ok-Refused
-returns-in-Ok-Refused g c = λ line is.
+pub returns-in_ok-more_on-in-Ok-Refused : goal.returns-in_ok-more_on-in-Ok-Refused
+returns-in_ok-more_on-in-Ok-Refused g c = λ line is.
     let old = g.W.Write.contents c.args.out.now in
     let new = g.W.Write.contents c.run_script.new.writer in
     inl (
@@ -14,7 +14,7 @@ returns-in-Ok-Refused g c = λ line is.
       subst (λ (e : Ending). Drills (Some c.args.script.now) old new e) c.in-Ok-Refused.field-0-is
           c.in-Ok-Refused.ensures,
       refl,
-      is,
+      (c.in_ok-more_on-in-Ok-Refused.field-0.items, c.in_ok-more_on-in-Ok-Refused.ensures, is),
     )
 
 pub returns-in-Ok-NoTape : goal.returns-in-Ok-NoTape
