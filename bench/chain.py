@@ -6,8 +6,8 @@
     chain.py silent                          prints its port; greets, takes every command and article, answers none
     chain.py watch FUNNEL                    prints when each message-id is in the funnel, a file or a directory
     chain.py each FROM TO [WATCHED]          of the articles that both logs of innd have accepted: how many, and the
-                                             median, the 95th per cent and the maximum of the seconds from FROM to TO;
-                                             with WATCHED also the median until the funnel had them
+                                             median, the 95th and 99th per cent and the maximum of the seconds from
+                                             FROM to TO; with WATCHED also the median until the funnel had them
     chain.py all FROM TO [WATCHED]           how many, and when the first and the last was accepted by TO, in seconds
                                              after FROM accepted the first one; when FROM accepted its last one; with
                                              WATCHED also when the funnel had the first and the last
@@ -126,7 +126,7 @@ def each(first, second, watched=None):
     begun, ended = accepted(first), accepted(second)
     took = [ended[name] - begun[name] for name in begun if name in ended]
     middle = statistics.median(took) if took else NONE
-    told = f"{len(took)} {middle:.3f} {at(took, 0.95):.3f} {max(took, default=NONE):.3f}"
+    told = f"{len(took)} {middle:.3f} {at(took, 0.95):.3f} {at(took, 0.99):.3f} {max(took, default=NONE):.3f}"
     if watched:
         seen = handed_on(watched)
         told += f" {statistics.median([seen[n] - begun[n] for n in begun if n in seen] or [NONE]):.3f}"

@@ -1,18 +1,25 @@
 #!/usr/bin/env bash
-# chain.sh [ARTICLES [BURST [THIRD ..]]]: the whole way of an article from one innd to another, where Debian's inn2 and
-# python3 are installed: innd's file feed, examples/service/take-from-innd, innfeed --follow --tidy, and the other innd.
-# Beside it INN's own innfeed feeds the same articles, as a channel feed of the first innd, to a third one.
-#   - ARTICLES articles (300), one a second: the seconds from the moment the first innd accepts an article to the moment
-#     the other does, by the logs of both;
-#   - BURST articles (10,000) at once: when the first and when the last is there, counted from the first that was accepted.
-#     Ours and INN's take turns at that.
+# chain.sh [ARTICLES [BURST [THIRD ..]]]: the whole way of an article from one innd to another, if Debian's inn2 and
+# python3 are installed, by three ways side by side in one run, from one innd, each to an innd of its own:
+#   spool   innd's file feed, examples/service/follow-innd, innfeed --follow --tidy, which reads innd's own spool;
+#   copies  innd's file feed, examples/service/take-from-innd, innfeed --follow --tidy, which reads copies;
+#   inns    INN's own innfeed, as a channel feed of the first innd.
+# Two loads are measured:
+#   - ARTICLES articles (500), ten a second, with a roll-over of follow-innd each 10 seconds: the seconds from the
+#     moment the first innd accepts an article to the moment the other does, by the logs of both;
+#   - BURST articles (10,000) at once, by one way after the other: when the first and when the last is there, counted
+#     from the first that was accepted.
 # Each alone, and beside one more peer that refuses connections, whose host drops packets (as root, who can make a
-# network of its own), or that greets and never answers a command; with the words none, refuses, drops and silent it does
-# these alone, and 0 for a number passes that load over. The aims stand beside the figures: ratios and seconds to look
-# at, and no test. $INNFEED names another program to measure, $TAKE another take-from-innd, and $FILE_ARTICLES another
-# file-articles.
+# network of its own), or that greets and never answers a command; with the words none, refuses, drops and silent it
+# does these alone, and 0 for a number passes that load over. The aims stand beside the figures: ratios and seconds to
+# look at, and no test. $INNFEED names another program to measure, $TAKE another take-from-innd, $FOLLOW another
+# follow-innd, and $FILE_ARTICLES another file-articles. WAYS, such as WAYS='spool inns', names the ways to measure. If
+# the program does not know innd-spool, or file-articles is not built, what needs it is passed over.
+#
+# What it gave is in docs/MEASURED.md, "From one innd to another": by copies 0.79 s at the median. From innd's spool it
+# was not measured yet; the figures belong there, in the table, and in README.md in the row "innd to innd".
 . "$(dirname "$(readlink -f "${BASH_SOURCE[0]}")")/lib.sh"
-bin=/usr/lib/news/bin articles=${1:-300} burst=${2:-10000} chosen=("${@:3}")
+bin=/usr/lib/news/bin articles=${1:-500} burst=${2:-10000} chosen=("${@:3}")
 for program in "$bin/innd" "$bin/innfeed" /usr/bin/python3; do
   [ -x "$program" ] || { echo "chain.sh: nothing to measure, since there is no $program"; exit 0; }
 done
@@ -21,13 +28,15 @@ case $(id -un) in
   *) echo 'chain.sh: nothing to measure, since only root and the user news can run innd'; exit 0 ;;
 esac
 [ -n "${INNFEED:-}" ] || build innfeed
-[ -n "${FILE_ARTICLES:-}" ] || build file_articles
+read -ra ways <<<"${WAYS:-spool copies inns}"
+case " ${ways[*]} " in *' copies '*) [ -n "${FILE_ARTICLES:-}" ] || build file_articles ;; esac
 # A network of its own, so that there can be a host that drops packets.
 if [ -z "${CHAIN_NETWORK:-}" ] && unshare -n true 2>/dev/null; then
   CHAIN_NETWORK=own exec unshare -n "${BASH_SOURCE[0]}" "$articles" "$burst" "${chosen[@]}"
 fi
 innfeed=$(readlink -m "${INNFEED:-$top/crates/innfeed/out/innfeed}")
 take=$(readlink -m "${TAKE:-$top/examples/service/take-from-innd}")
+follow=$(readlink -m "${FOLLOW:-$top/examples/service/follow-innd}")
 file_articles=$(readlink -m "${FILE_ARTICLES:-$top/crates/file_articles/out/file_articles}")
 run=$(mktemp -d)
 as=() # innd runs as the user news alone
@@ -62,7 +71,24 @@ cd "$run"
 mkdir programs
 cp "$innfeed" programs/innfeed
 cp "$take" programs/take-from-innd
-cp "$file_articles" programs/file-articles
+sed 's/SECONDS + 3600/SECONDS + 10/' "$follow" >programs/follow-innd # (a roll-over each 10 seconds)
+chmod 755 programs/follow-innd
+grep -q 'SECONDS + 10' programs/follow-innd || { echo "chain.sh: $follow has no hour" >&2; exit 1; }
+# leave_out WAY WHY: it is not measured.
+leave_out() {
+  local way left=()
+  for way in "${ways[@]}"; do [ "$way" = "$1" ] || left+=("$way"); done
+  [ ${#left[@]} -eq ${#ways[@]} ] || echo "$1: passed over, since $2"
+  ways=("${left[@]}")
+}
+echo "innd-spool: $run" >programs/conf
+programs/innfeed -c programs/conf --print-conf 2>/dev/null | grep -q '^innd-spool' ||
+  leave_out spool 'the program does not know innd-spool'
+if [ -x "$file_articles" ]; then
+  cp "$file_articles" programs/file-articles
+else
+  leave_out copies "there is no $file_articles"
+fi
 unset FILE_ARTICLES # take-from-innd takes the one beside it
 thirds=(none refuses silent)
 if [ "${CHAIN_NETWORK:-}" = own ]; then
@@ -146,11 +172,48 @@ sites() {
   echo "$1:*:Tm:$2"
   [ "$third" = none ] || echo "$1.third:*:Tm:$2"
 }
-# begin FEEDER ..: an innd `here` that is fed to `ours`, to `inns`, or to both, and all that stands between.
+# ours WAY PORT: the configuration of an innfeed of ours, and the entries of its peers in newsfeeds(5).
+ours() {
+  mkdir "$1.feed" "$1.feed/articles" "$1.feed/backlog" "$1.feed/funnel"
+  { [ "$1" != spool ] || echo "innd-spool: $run/here/spool"
+    echo "news-spool: $run/$1.feed/articles"
+    echo "backlog-directory: $run/$1.feed/backlog"
+    echo "status-file: $run/$1.feed/status"
+    peers "$1" "$2"; } >"$1.feed/conf"
+  echo "$1!:!*:Tf,Wnm*:$run/$1.feed/batch" >>here/etc/newsfeeds
+  sites "$1" "$1!" >>here/etc/newsfeeds
+}
+# of_inn PORT: the same of INN's innfeed.
+of_inn() {
+  mkdir channel channel/backlog
+  { echo "news-spool: $run/here/spool/articles"
+    echo "backlog-directory: $run/channel/backlog"
+    echo "pid-file: $run/channel/pid"
+    echo "log-file: $run/channel/log"
+    echo "status-file: $run/channel/status"
+    peers inns "$1" | sed 's/[{}]/\n&\n/g; s/\(ip-name: [^ ]*\) /\1\n/'; } >channel/conf
+  echo "channel!:!*:Tc,Wnm*:$bin/innfeed -c $run/channel/conf" >>here/etc/newsfeeds
+  sites inns channel! >>here/etc/newsfeeds
+}
+# feed WAY: starts what stands between the innd `here` and that of this way of ours.
+feed() {
+  local batch=$run/$1.feed/batch funnel=$run/$1.feed/funnel
+  if [ "$1" = spool ]; then
+    "${with[@]}" programs/follow-innd --site "$1!" "$batch" "$funnel" >"$1.feed/said" 2>&1 &
+  else
+    "${with[@]}" programs/take-from-innd --follow --site "$1!" "$batch" "$run/$1.feed/articles" "$funnel" \
+      >"$1.feed/said" 2>&1 &
+    running+=($!)
+    python3 "$top/bench/chain.py" watch "$funnel" >"$1.watched" &
+  fi
+  running+=($!)
+  "${as[@]}" programs/innfeed -c "$1.feed/conf" --follow --tidy "$funnel" >"$1.feed/told" 2>&1 &
+  running+=($!)
+}
+# begin WAY ..: an innd `here`, one for each way, and all that stands between.
 begin() {
-  local feeder
-  rm -rf here ours inns feed channel funnel watched
-  mkdir feed feed/articles feed/backlog channel channel/backlog funnel
+  local way port
+  rm -rf here spool copies inns ./*.feed channel ./*.watched
   if [ "$third" = silent ]; then
     python3 "$top/bench/chain.py" silent >silent.port &
     running+=($!)
@@ -158,43 +221,22 @@ begin() {
   fi
   here=$(unused)
   server here "$here"
-  for feeder in "$@"; do
-    local port
+  for way in "$@"; do
     port=$(unused)
-    server "$feeder" "$port"
-    start "$feeder"
-    if [ "$feeder" = ours ]; then
-      { echo "news-spool: $run/feed/articles"
-        echo "backlog-directory: $run/feed/backlog"
-        echo "status-file: $run/feed/status"
-        peers "$feeder" "$port"; } >feed/conf
-      echo "innfeed-tapes!:!*:Tf,Wnm*:$run/feed/batch"
-      sites ours innfeed-tapes!
-    else
-      { echo "news-spool: $run/here/spool/articles"
-        echo "backlog-directory: $run/channel/backlog"
-        echo "pid-file: $run/channel/pid"
-        echo "log-file: $run/channel/log"
-        echo "status-file: $run/channel/status"
-        peers "$feeder" "$port" | sed 's/[{}]/\n&\n/g; s/\(ip-name: [^ ]*\) /\1\n/'; } >channel/conf
-      echo "channel!:!*:Tc,Wnm*:$bin/innfeed -c $run/channel/conf"
-      sites inns channel!
-    fi >>here/etc/newsfeeds
+    server "$way" "$port"
+    start "$way"
+    if [ "$way" = inns ]; then of_inn "$port"; else ours "$way" "$port"; fi
   done
   chown -R news:news "$run"
   start here
-  case " $* " in *' ours '*)
-    "${with[@]}" programs/take-from-innd --follow "$run/feed/batch" "$run/feed/articles" "$run/funnel" >feed/take.said 2>&1 &
-    running+=($!)
-    "${as[@]}" programs/innfeed -c feed/conf --follow --tidy funnel >feed/told 2>&1 &
-    running+=($!)
-    python3 "$top/bench/chain.py" watch funnel >watched &
-    running+=($!)
-    sleep 1 ;;
-  esac
+  for way in "$@"; do [ "$way" = inns ] || feed "$way"; done
+  sleep 2
 }
-# complaints: what take-from-innd and innfeed have told besides how far they are.
-complaints() { { grep -Ev '^(taken|innfeed .* (starts|ends as asked):) ' feed/told; cat feed/take.said; } 2>/dev/null | head -n 5 | sed 's/^/  told: /' || true; }
+# complaints: what the programs of ours have printed besides how far they are.
+complaints() {
+  { cat ./*.feed/told | grep -Ev '^(taken|innfeed .* (starts|ends as asked):)'; cat ./*.feed/said; } 2>/dev/null |
+    head -n 5 | sed 's/^/  printed: /' || true
+}
 # arrive SECONDS COUNT NAME ..: waits until these have COUNT articles, at most SECONDS seconds after the last.
 arrive() {
   local name before=-1 now still=0
@@ -210,41 +252,48 @@ arrive() {
 
 declare -A words=([none]='alone' [refuses]='with a third peer that refuses connections'
   [drops]='with a third peer whose host drops packets' [silent]='with a third peer that is silent')
-echo "load $(cut -d ' ' -f 1-3 /proc/loadavg), $(nproc) processors"
-alone=
+declare -A names=([spool]="from innd's spool" [copies]='by copies' [inns]="by INN's innfeed")
+# Seconds: at the median, and for 99 of 100 or, by copies, at most; of the first and the last of a burst.
+declare -A aims=([spool]='0.025 and 0.06' [copies]='1.5 and 3' [inns]='-')
+declare -A burst_aims=([spool]='-' [copies]='2 and 12' [inns]='-')
+declare -A alone=()
+echo "load $(cut -d ' ' -f 1-3 /proc/loadavg), $(nproc) processors ($commit)"
 for third in "${thirds[@]}"; do
   [ "$articles" -gt 0 ] || break
-  begin ours inns
-  python3 "$top/bench/chain.py" offer "$here" "$articles" 1 4096
-  arrive 20 "$articles" ours inns
+  begin "${ways[@]}"
+  python3 "$top/bench/chain.py" offer "$here" "$articles" 0.1 4096
+  arrive 20 "$articles" "${ways[@]}"
   complaints
   stop
-  read -r count middle most latest handed <<<"$(python3 "$top/bench/chain.py" each here/log/news ours/log/news watched)"
-  alone=${alone:-$middle}
-  echo "$articles articles, one a second, ${words[$third]}: $count there, after a median of $middle s," \
-    "95 % $most s, at most $latest s (aims: 1.5 and 3); $handed s of the median until they are in the funnel;" \
-    "$(awk -v a="$alone" -v m="$middle" 'BEGIN { printf "%.2f", m / a }') times the median alone (aim: at most 1.1) ($commit)"
-  read -r count middle most latest <<<"$(python3 "$top/bench/chain.py" each here/log/news inns/log/news)"
-  echo "  INN's innfeed: $count there, after a median of $middle s, 95 % $most s, at most $latest s"
+  echo "$articles articles, ten a second, ${words[$third]}:"
+  for way in "${ways[@]}"; do
+    watched=()
+    [ "$way" != copies ] || watched=(copies.watched)
+    read -r count middle most all latest handed <<<"$(
+      python3 "$top/bench/chain.py" each here/log/news "$way/log/news" "${watched[@]}")"
+    alone[$way]=${alone[$way]:-$middle}
+    echo "  ${names[$way]}: $count there, after a median of $middle s, 95 % $most s, 99 % $all s, at most $latest s" \
+      "(aims: ${aims[$way]}); $(awk -v a="${alone[$way]}" -v m="$middle" 'BEGIN { printf "%.2f", a ? m / a : 1 }')" \
+      "times the median alone (aim: at most 1.1)${handed:+; $handed s of the median until they are in the funnel}"
+  done
 done
 for third in "${thirds[@]}"; do
   [ "$burst" -gt 0 ] || break
-  for feeder in ours inns; do
-    begin "$feeder"
+  echo "$burst articles at once, ${words[$third]}:"
+  for way in "${ways[@]}"; do
+    begin "$way"
     python3 "$top/bench/chain.py" offer "$here" "$burst" 0 4096
-    arrive 60 "$burst" "$feeder"
+    arrive 60 "$burst" "$way"
     complaints
     stop
     watched=()
-    [ "$feeder" != ours ] || watched=(watched)
-    read -r count first last posted handed all <<<"$(python3 "$top/bench/chain.py" all here/log/news "$feeder/log/news" "${watched[@]}")"
-    if [ "$feeder" = ours ]; then
-      echo "$burst articles at once, accepted within $posted s, ${words[$third]}: $count there, the first after $first s," \
-        "the last after $last s (aims: 2 and 12); in the funnel after $handed to $all s ($commit)"
-    else
-      echo "  INN's innfeed (accepted within $posted s): $count there, the first after $first s, the last after $last s$(
-        [ "$count" -ge "$burst" ] || echo ', the others wait in its backlog files')"
-    fi
+    [ "$way" != copies ] || watched=(copies.watched)
+    read -r count first last posted handed all <<<"$(
+      python3 "$top/bench/chain.py" all here/log/news "$way/log/news" "${watched[@]}")"
+    echo "  ${names[$way]} (accepted within $posted s): $count there," \
+      "the first after $first s, the last after $last s (aims: ${burst_aims[$way]})${handed:+;} $(
+        [ -z "$handed" ] || echo "in the funnel after $handed to $all s"
+        [ "$count" -ge "$burst" ] || echo '; the others wait in a backlog')"
   done
 done
 echo "load $(cut -d ' ' -f 1-3 /proc/loadavg)"
