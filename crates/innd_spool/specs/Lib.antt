@@ -1,0 +1,5 @@
+pub mod Buffers
+pub mod Files
+pub mod Groups
+pub mod Spools
+pub mod Texts

@@ -1,0 +1,165 @@
+// Files, whole.
+ghost use Rattle.std.specs.Prelude.{◌≡◌, ◌==◌, ◌++◌, ◌↔◌, IsOk, IsTrue, IfOk, IfSome, OnOk, take};
+ghost use Rattle.std.specs.Prelude.{string_bytes};
+ghost use Rattle.std.specs.IoError.{error_kind};
+ghost use Rattle.std.specs.List.{list_any, slice_split};
+ghost use Rattle.innd_spool.specs.Files.{is_absence, is_entry};
+
+use std::alloc::AllocError;
+use std::fs::{self, File, Metadata};
+use std::io::{self, ErrorKind, Read};
+use std::os::unix::fs::FileTypeExt;
+use std::rt::Files;
+use std::time::SystemTime;
+
+// One octet more than the longest text that can be sent: a file of this length is not read further.
+const READ_MAX_OCTETS: u64 = 16_777_217;
+
+/// What lies at a path.
+#[derive(Clone, Copy)]
+pub(crate) enum AtPath {
+    /// Nothing: the system reports that the path does not exist, or leads through a file that is not a directory.
+    Nothing,
+    Directory,
+    /// A regular file, whose octets are in the buffer.
+    File,
+}
+
+/// By what a file tells that it has been changed.
+#[derive(Clone, Copy, PartialEq, Eq)]
+pub(crate) struct FileState {
+    octets: u64,
+    modified: Option<SystemTime>,
+}
+
+/// Reads the file at a path into the buffer, in place of what was there: whole, or its first 16,777,217 octets.
+///
+/// # Errors
+/// The system's error; [`ErrorKind::InvalidInput`] if what lies there is neither a file nor a directory, since to open
+/// a FIFO might never end.
+pub(crate) fn read_path<F: Files>(
+    files: &F,
+    path: &str,
+    buffer: &mut Vec<u8>,
+) -> io::Result<AtPath> {
+    match fs::metadata(files, path) {
+        Ok(there) if there.is_file() => {}
+        Ok(there) if there.is_dir() => return Ok(AtPath::Directory),
+        Ok(_) => return Err(no_file()),
+        Err(error) => return absent(error),
+    }
+    match File::open(files, path) {
+        Ok(file) => read_open(file, buffer),
+        Err(error) => absent(error),
+    }
+}
+
+fn read_open<R: Read + Drop>(file: R, buffer: &mut Vec<u8>) -> io::Result<AtPath>
+    ensures file { IfOk result (λ at. at ≡ AtPath.File) }
+    ensures whole { OnOk result (IfSome (R.remaining file)
+        (λ octets. buffer.new.items ≡ take 16777217 octets)) }
+{
+    buffer.clear();
+    file.take(READ_MAX_OCTETS).read_to_end(buffer)?;
+    Ok(AtPath::File)
+}
+
+// What lies at a path that could not be looked at.
+fn absent(error: io::Error) -> io::Result<AtPath>
+    ensures absence { IsOk result ↔ IsTrue (is_absence (error_kind error)) }
+    ensures nothing { IfOk result (λ at. at ≡ AtPath.Nothing) }
+{
+    match error.kind() {
+        ErrorKind::NotFound => Ok(AtPath::Nothing),
+        ErrorKind::NotADirectory => Ok(AtPath::Nothing),
+        _ => Err(error),
+    }
+}
+
+/// The state of the file at a path.
+///
+/// # Errors
+/// The system's error; [`ErrorKind::InvalidInput`] if it is no regular file.
+pub(crate) fn state_of<F: Files>(files: &F, path: &str) -> io::Result<FileState> {
+    let there: Metadata = fs::metadata(files, path)?;
+    if !there.is_file() {
+        return Err(no_file());
+    }
+    Ok(FileState {
+        octets: there.len(),
+        modified: there.modified().ok(),
+    })
+}
+
+/// Reads a file whole, in place of what was in the buffer.
+///
+/// # Errors
+/// The system's error.
+pub(crate) fn read_whole<F: Files>(files: &F, path: &str, text: &mut Vec<u8>) -> io::Result<()> {
+    text.clear();
+    let mut file = File::open(files, path)?;
+    file.read_to_end(text)?;
+    Ok(())
+}
+
+/// Opens a buffer: a file or a device.
+///
+/// # Errors
+/// The system's error; [`ErrorKind::InvalidInput`] if it is a FIFO, since to open one might never end.
+pub(crate) fn open_buffer<F: Files>(files: &F, path: &str) -> io::Result<F::File> {
+    if fs::metadata(files, path)?.file_type().is_fifo() {
+        return Err(no_file());
+    }
+    File::open(files, path)
+}
+
+fn no_file() -> io::Error {
+    io::Error::new(ErrorKind::InvalidInput, "not a regular file")
+}
+
+/// Makes `path` the path of this name below the directory, which ends with a slash.
+///
+/// # Errors
+/// `AllocError` if memory was refused.
+pub(crate) fn set_path(path: &mut String, directory: &str, name: &str) -> Result<(), AllocError>
+    ensures { OnOk result (string_bytes path.new ≡ directory.now ++ name.now) }
+{
+    path.clear();
+    path.push_str(directory)?;
+    path.push_str(name)?;
+    Ok(())
+}
+
+/// Whether a directory has an entry. The path ends with a slash.
+pub(crate) fn has_entries<F: Files>(files: &F, path: &str) -> bool {
+    match files.open_dir(path) {
+        Ok(mut names) => has_names(&mut names).unwrap_or(false),
+        Err(_) => false,
+    }
+}
+
+// Whether there is a name but `.` and `..` among these, each of which a NUL ends. A read gives whole names.
+fn has_names<R: Read>(names: &mut R) -> io::Result<bool> {
+    let mut buffer = [0u8; 1024];
+    for _ in 0..u64::MAX {
+        match names.read(&mut buffer)? {
+            0 => return Ok(false),
+            count if has_name(&buffer[..count]) => return Ok(true),
+            _ => {}
+        }
+    }
+    Ok(false)
+}
+
+fn has_name(names: &[u8]) -> bool
+    ensures { result ≡ list_any is_entry (slice_split (λ octet. octet == 0) names.now) }
+{
+    names.split(|octet| *octet == 0).any(|name| is_entry(name))
+}
+
+// Whether this is the name of an entry, and neither empty nor `.` or `..`.
+fn is_entry(name: &[u8]) -> bool
+    ensures { result ≡ is_entry name.now }
+{
+    name.len() > 2 || name.iter().any(|octet| *octet != b'.')
+}
