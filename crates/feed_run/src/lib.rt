@@ -1,13 +1,14 @@
 //! A whole run: `intake` opens the tapes and the funnel, two feeders, the flusher and the intake run in their threads,
 //! and `intake` reports what was done.
 //!
-//! May touch the folder of articles, sockets, the clock and threads, and by `intake` the backlog directory, the funnel
+//! May touch the spool of articles, sockets, the clock and threads, and by `intake` the backlog directory, the funnel
 //! and the status file. The crates above give [`SystemFeeds`] to `cli::run`, which reports how the run ended. What is
 //! acknowledged, sent and owed is up to the crates below; here calls are proved to be safe, and to return unless they
 //! wait.
 #![tactic(auto)]
 
 mod run;
+mod spool;
 mod start_and_end;
 mod suspects;
 mod system;

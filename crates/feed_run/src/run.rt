@@ -4,9 +4,9 @@ ghost use Rattle.std.specs.List.{All};
 ghost use Rattle.flusher.specs.Post.{IsFor, names_of};
 ghost use Rattle.flusher.specs.Sealed.{IsFlushed};
 
-use crate::start_and_end::{log_end, log_no_login, log_no_spool, log_start, look_for_spool};
+use crate::spool::{SpoolPaths, SpoolPlaces, Spools};
+use crate::start_and_end::{log_end, log_no_login, log_start};
 use crate::suspects::{keep_all, suspects_of};
-use crate::system::Spools;
 use crate::targets::{by_name, hosts_of, targets_of};
 use article_store::SpoolDirectory;
 use disk_model::{FileDisk, TapeDirectory, TapeFile};
@@ -58,7 +58,7 @@ pub(crate) struct RunEnv<'a, R, F, H, C, L> {
 #[derive(Drop)]
 struct Places {
     directory: Vec<u8>,
-    spool: Vec<u8>,
+    spool: SpoolPlaces,
     status: Vec<u8>,
     // The most octets that are kept of lines that name unknown peers.
     unknown_limit: u64,
@@ -200,7 +200,7 @@ pub(crate) fn feed<
 fn places_of(alloc: Global, conf: &Conf) -> Result<Places, AllocError> {
     Ok(Places {
         directory: Vec::from_slice(alloc, conf.backlog_directory())?,
-        spool: Vec::from_slice(alloc, conf.news_spool())?,
+        spool: SpoolPlaces::of(alloc, conf)?,
         status: Vec::from_slice(alloc, conf.status_file())?,
         unknown_limit: conf.unknown_limit(),
     })
@@ -267,7 +267,7 @@ fn feed_open<
             funnel.path(),
             intake.mark(),
         );
-        log_no_spool(env.rt, env.files, &places.spool);
+        places.spool.log_missing(env.rt, env.files);
     }
     let taking = taking_of(env, backlogs, places, &confs, funnel, stop, keeper)?;
     let start = taking.start;
@@ -291,16 +291,21 @@ fn feed_open<
 }
 
 // Logs why the directory of the articles cannot be read, if that is how a run ended, and the directory is not there.
-fn log_spool_fault<R: Log, F: Files<File = File>>(rt: &R, files: &F, spool: &[u8], end: &FeedEnd) {
+fn log_spool_fault<R: Log, F: Files<File = File>>(
+    rt: &R,
+    files: &F,
+    spool: &SpoolPlaces,
+    end: &FeedEnd,
+) {
     let is_unread = end.files.iter().any(|error| match error {
-        FileError::Unread(path) => path.as_slice() == spool,
+        FileError::Unread(path) => path.as_slice() == spool.path(),
         _ => false,
     });
     if !is_unread {
         return;
     }
-    if let Err(error) = look_for_spool(files, spool) {
-        log_reason(rt, spool, &error);
+    if let Err(error) = spool.look(files) {
+        log_reason(rt, spool.path(), &error);
     }
 }
 
@@ -320,10 +325,14 @@ fn feeding_of<R: Clock + Log, F: AllocGlobal, S: Drop, H: Spools<Store = S>, C, 
     start: Instant,
 ) -> Result<Feeding<S>, RunError> {
     let alloc = env.files.alloc();
-    let Ok(path) = str::from_utf8(&places.spool) else {
-        let invalid = io::Error::from(ErrorKind::InvalidInput);
-        return Err(RunError::unread(env.rt, alloc, &places.spool, &invalid));
+    let paths = match places.spool.paths() {
+        Ok(paths) => paths,
+        Err(path) => {
+            let invalid = io::Error::from(ErrorKind::InvalidInput);
+            return Err(RunError::unread(env.rt, alloc, path, &invalid));
+        }
     };
+    let path = text_of(places.spool.path());
     let most = most_connections(env.rt, peers);
     Ok(Feeding {
         targets: (
@@ -331,12 +340,13 @@ fn feeding_of<R: Clock + Log, F: AllocGlobal, S: Drop, H: Spools<Store = S>, C, 
             targets_of(alloc, peers, most)?,
         ),
         hosts: hosts_of(alloc, peers)?,
-        spools: (open_spool(env, path)?, open_spool(env, path)?),
+        spools: (open_spool(env, paths, path)?, open_spool(env, paths, path)?),
         tally: Arc::new(alloc, SpoolTally::new(alloc, path, peers.len())?)?,
         suspects: Arc::new(alloc, suspects)?,
         outages: Arc::new(alloc, Outages::new(alloc, peers.len())?)?,
         is_lasting,
-        drops_missing,
+        // (of an article that its own spool does not have, innd has said that it is gone)
+        drops_missing: drops_missing || places.spool.is_of_innd(),
         start,
     })
 }
@@ -379,14 +389,15 @@ fn names_of(alloc: Global, peers: &[PeerConf]) -> Result<Vec<PeerName>, AllocErr
     Ok(names)
 }
 
-// The spool below the directory at this path.
+// The spool at these paths; messages name it by `path`.
 fn open_spool<R, F: AllocGlobal, S: Drop, H: Spools<Store = S>, C, L>(
     env: &RunEnv<'_, R, F, H, C, L>,
+    paths: SpoolPaths<'_>,
     path: &str,
 ) -> Result<Spool<S>, AllocError> {
     let alloc = env.files.alloc();
     Ok(Spool {
-        store: env.spools.open(alloc, path)?,
+        store: env.spools.open(alloc, paths)?,
         path: String::from_str(alloc, path)?,
     })
 }

@@ -1,9 +1,6 @@
 // What a run that follows its funnel logs at its start and at its end.
 use feed_conf::{Conf, Ignored};
 use log::{Log, warn};
-use std::fs::{self, File};
-use std::io::{self, ErrorKind};
-use std::rt::Files;
 use std::str;
 
 /// A run begins: its version, how many peers it feeds, and the line from which on it reads the funnel at this path, if
@@ -23,30 +20,6 @@ pub(crate) fn log_no_login<R: Log>(rt: &R, path: &str, conf: &Conf) {
 
 fn is_of_login(setting: &Ignored) -> bool {
     matches!(setting.key.as_slice(), b"username" | b"password")
-}
-
-/// Logs that the directory of the articles is not there, if so, and what that means. It is looked for again with each
-/// article that is wanted.
-pub(crate) fn log_no_spool<R: Log, F: Files<File = File>>(rt: &R, files: &F, spool: &[u8]) {
-    if let Err(error) = look_for_spool(files, spool) {
-        warn!(
-            rt;
-            "news-spool {}: {}; articles wait until it is there, and none is dropped: make or mount it",
-            text_of(spool), error
-        );
-    }
-}
-
-/// Looks whether the directory of the articles is there.
-///
-/// # Errors
-/// Why it is not: the system's error; `NotADirectory` if something else is there.
-pub(crate) fn look_for_spool<F: Files<File = File>>(files: &F, spool: &[u8]) -> io::Result<()> {
-    if fs::metadata(files, text_of(spool))?.is_dir() {
-        Ok(())
-    } else {
-        Err(ErrorKind::NotADirectory.into())
-    }
 }
 
 /// A run ends as it was asked to, with all lines up to `mark` acknowledged.

@@ -1,47 +1,21 @@
 // Feeding peers for `cli`, with the system's files, sockets and threads.
 use crate::run::{RunEnv, feed};
+use crate::spool::HostSpools;
 use crate::targets::by_name;
 use crate::thread_runtime::{LoggedSystem, ThreadRuntime};
-use article_store::Folder;
 use feed_conf::Conf;
 use feed_ends::{FeedEnd, Feeds, Listing, Source};
 use log::Log;
 use log_writer::{LogWriter, RunLog};
 use owed_list::list_owed;
 use resolver::{LookUp, SystemLookUp};
-use std::alloc::{AllocError, Global};
+use std::alloc::Global;
 use std::fs::File;
 use std::io::Write;
 use std::marker::PhantomData;
 use std::rt::{Clock, Files};
 use std::sync::Wait;
 use std::thread::Threads;
-
-// Opens the folder of articles, once for each feeder.
-pub(crate) trait Spools {
-    /// A store of articles.
-    type Store;
-
-    /// The articles below the directory at this path.
-    ///
-    /// # Errors
-    /// Memory was refused.
-    fn open(&self, alloc: Global, directory: &str) -> Result<Self::Store, AllocError>;
-}
-
-// Opens folders of the system's files.
-#[derive(Drop)]
-pub(crate) struct HostSpools {
-    host: HostRuntime,
-}
-
-impl Spools for HostSpools {
-    type Store = Folder<HostRuntime>;
-
-    fn open(&self, alloc: Global, directory: &str) -> Result<Folder<HostRuntime>, AllocError> {
-        Folder::new(self.host, alloc, directory)
-    }
-}
 
 /// Feeds the peers of these settings, which were read from the file at `path`, as [`Feeds`] says. `rt` is the
 /// runtime of the threads; articles and sockets are those of `host`; `version` is the program's, for the log.
