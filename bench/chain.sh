@@ -5,8 +5,10 @@
 #   copies  innd's file feed, examples/service/take-from-innd, innfeed --follow --tidy, which reads copies;
 #   inns    INN's own innfeed, as a channel feed of the first innd.
 # Two loads are measured:
-#   - ARTICLES articles (500), ten a second, with a roll-over of follow-innd each 10 seconds: the seconds from the
-#     moment the first innd accepts an article to the moment the other does, by the logs of both;
+#   - ARTICLES articles (500), ten a second, with a roll-over of follow-innd each 10 seconds, or $ROLL_OVER seconds: the
+#     seconds from the moment the first innd accepts an article to the moment the other does, by the logs of both. What
+#     comes within a roll-over waits for its end, and for the run's next look: at 10 seconds that is one article of 100
+#     at least, at 3600, as in service, none of 500;
 #   - BURST articles (10,000) at once, by one way after the other: when the first and when the last is there, counted
 #     from the first that was accepted.
 # Each alone, and beside one more peer that refuses connections, whose host drops packets (as root, who can make a
@@ -71,9 +73,10 @@ cd "$run"
 mkdir programs
 cp "$innfeed" programs/innfeed
 cp "$take" programs/take-from-innd
-sed 's/SECONDS + 3600/SECONDS + 10/' "$follow" >programs/follow-innd # (a roll-over each 10 seconds)
+roll_over=${ROLL_OVER:-10}
+grep -q 'SECONDS + 3600' "$follow" || { echo "chain.sh: $follow has no hour" >&2; exit 1; }
+sed "s/SECONDS + 3600/SECONDS + $roll_over/" "$follow" >programs/follow-innd
 chmod 755 programs/follow-innd
-grep -q 'SECONDS + 10' programs/follow-innd || { echo "chain.sh: $follow has no hour" >&2; exit 1; }
 # leave_out WAY WHY: it is not measured.
 leave_out() {
   local way left=()
@@ -265,7 +268,7 @@ for third in "${thirds[@]}"; do
   arrive 20 "$articles" "${ways[@]}"
   complaints
   stop
-  echo "$articles articles, ten a second, ${words[$third]}:"
+  echo "$articles articles, ten a second, a roll-over each $roll_over s, ${words[$third]}:"
   for way in "${ways[@]}"; do
     watched=()
     [ "$way" != copies ] || watched=(copies.watched)
