@@ -72,7 +72,7 @@ def silent():
         except OSError:
             pass
 
-    listener = socket.create_server(("127.0.0.1", 0), backlog=100)
+    listener = socket.create_server(("127.0.0.1", 0), backlog=4096)
     print(listener.getsockname()[1], flush=True)
     while True:
         stream, _ = listener.accept()

@@ -23,7 +23,7 @@ class Sink:
     """A peer that takes everything, and keeps when each article was offered or sent first."""
 
     def __init__(self):
-        self.seen, self.server = {}, socket.create_server(("127.0.0.1", 0))
+        self.seen, self.server = {}, socket.create_server(("127.0.0.1", 0), backlog=4096)
         threading.Thread(target=self.accept, daemon=True).start()
 
     def accept(self):

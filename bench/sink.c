@@ -22,6 +22,8 @@
  *   -g TEXT        greeting line (default "200 sink ready")
  *   -b             refuse connections: greeting 400, close
  *   -q             TCP_QUICKACK off / nothing else: reserved
+ * Up to 4,096 connections wait to be accepted (fewer if net.core.somaxconn is less) and as many are open; others are
+ * closed. It raises its limit of open files as far as it may, and ends where that does not do.
  * SIGTERM or SIGINT: counters on standard output as "key=value ..." on one line, exit 0. SIGUSR1: the same, going on.
  * The choice of the rates is by a hash of the id, so that it is the same in every run.
  */
@@ -46,6 +48,15 @@
 typedef uint64_t u64; typedef uint32_t u32;
 static u64 now_ns(void) { struct timespec t; clock_gettime(CLOCK_MONOTONIC, &t); return (u64)t.tv_sec * 1000000000u + t.tv_nsec; }
 static void die(const char *s) { perror(s); exit(1); }
+
+/* So many connections may wait to be accepted, and be open: with fewer, a feeder of many peers hangs. */
+enum { MOST = 4096 };
+static void raise_limit(void) {
+  struct rlimit files;
+  if (getrlimit(RLIMIT_NOFILE, &files)) die("getrlimit");
+  files.rlim_cur = files.rlim_max;
+  if (setrlimit(RLIMIT_NOFILE, &files)) die("setrlimit");
+}
 
 /* crc32 (IEEE), slicing by 8 */
 static u32 T[8][256];
@@ -204,14 +215,14 @@ int main(int argc, char **argv) {
     case 'i': ids = fopen(optarg, "w"); if (!ids) die(optarg); setvbuf(ids, 0, _IOFBF, 1 << 20); break; case 'w': opt_w = optarg; break;
     case 'n': opt_n = atoll(optarg); break; case 'f': opt_f = optarg; break; case 'M': opt_M = optarg; break; case 'g': opt_g = optarg; break; case 'b': opt_block = 1; break; case 'q': break;
     default: fprintf(stderr, "see the head of sink.c\n"); return 2; }
-  crc_init(); signal(SIGPIPE, SIG_IGN);
+  crc_init(); raise_limit(); signal(SIGPIPE, SIG_IGN);
   sigset_t m; sigemptyset(&m); sigaddset(&m, SIGTERM); sigaddset(&m, SIGINT); sigaddset(&m, SIGUSR1); sigprocmask(SIG_BLOCK, &m, 0);
   int sf = signalfd(-1, &m, SFD_NONBLOCK), ls = socket(AF_INET, SOCK_STREAM | SOCK_NONBLOCK, 0), one = 1;
   setsockopt(ls, SOL_SOCKET, SO_REUSEADDR, &one, sizeof one);
   struct sockaddr_in sa = { .sin_family = AF_INET, .sin_port = htons(opt_port), .sin_addr.s_addr = htonl(INADDR_LOOPBACK) };
-  if (bind(ls, (void *)&sa, sizeof sa) || listen(ls, 128)) die("bind");
+  if (bind(ls, (void *)&sa, sizeof sa) || listen(ls, MOST)) die("bind");
   socklen_t sl = sizeof sa; getsockname(ls, (void *)&sa, &sl); printf("listening %d\n", ntohs(sa.sin_port)); fflush(stdout);
-  ep = epoll_create1(0); nC = 1024; C = calloc(nC, sizeof *C);
+  ep = epoll_create1(0); nC = MOST; C = calloc(nC, sizeof *C);
   struct epoll_event e = { .events = EPOLLIN, .data.u32 = 0xfffffffe }; epoll_ctl(ep, EPOLL_CTL_ADD, ls, &e); e.data.u32 = 0xffffffff; epoll_ctl(ep, EPOLL_CTL_ADD, sf, &e);
   struct epoll_event ev[256];
   for (;;) {
@@ -241,6 +252,7 @@ int main(int argc, char **argv) {
           S.conns++; if (++S.open > S.open_max) S.open_max = S.open;
           char b[600]; int n = snprintf(b, sizeof b, "%s\r\n", opt_g); reply(c, b, n); if (!lat) flush_out(c);
         }
+        if (errno == EMFILE || errno == ENFILE) die("accept");
         continue;
       }
       conn *c = &C[who]; if (!c->used) continue;
