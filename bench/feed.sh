@@ -10,15 +10,23 @@
 #     the best of five runs), and how many times its processor time an article;
 #   costs: from a backlog, the processor time an article, ours to INN's; and, where strace is there, the system calls an
 #     article;
-#   late: from a backlog, the part of the window that is used at a peer whose answers take 20 ms.
+#   late: from a backlog, the part of the window that is used at a peer whose answers take 20 ms;
+#   1MiB: the rates of a twentieth as many articles of 1 MiB over 1, 2, 4 and 64 connections, beside INN's, with the
+#     processor time an article. A file of them serves for ten;
+#   bare: from a backlog, rates and processor time an article, of 1, 4 and 32 KiB over 1, 2 and 4 connections, beside a
+#     sender in C of one thread that notes nothing of what it sends (bench/bare.c, built by cc): one that opens the file
+#     of each article, and one that has all of them in memory as they are sent;
+#   spool: the same, if the articles are read where innd keeps them, a tradspool in wire format that is made here,
+#     beside copies of them and, where it is installed, beside INN's innfeed over the same spool.
+#
+# $INNFEED names another program to measure.
 #
 # Other programs that run at the same time move these. It fails on none.
 . "$(dirname "$(readlink -f "${BASH_SOURCE[0]}")")/lib.sh"
 [ -z "${BEFORE-}" ] || built "$BEFORE" innfeed
-build innfeed
+choose_feeder
 most=${1:-20000} runs=${2:-2} parts=("${@:3}")
-[ ${#parts[@]} -gt 0 ] || parts=(rates before costs late)
-ours=$top/crates/innfeed/out/innfeed
+[ ${#parts[@]} -gt 0 ] || parts=(rates before costs late 1MiB bare spool)
 run=$(mktemp -d)
 trap 'kill $(jobs -p) 2>/dev/null || true; rm -rf "$run"' EXIT
 cd "$run"
@@ -32,14 +40,21 @@ from_funnel() {
   timed "$1" -c conf funnel.1
   rate
 }
-# from_backlog PROGRAM CONNECTIONS: its rate, once all is owed to a peer that could not be reached.
+# from_backlog PROGRAM CONNECTIONS [FUNNEL]: its rate, once all is owed to a peer that could not be reached.
 from_backlog() {
   cleared
   settings "$2" 1
-  "$1" -c conf funnel.1 >told 2>&1
+  "$1" -c conf "${3:-funnel.1}" >told 2>&1
   listen
   settings "$2" "${ports[@]}"
   timed ${trace:-} "$1" -c conf -x
+  rate
+}
+# from_bare WORD CONNECTIONS: the rate of a bare sender.
+from_bare() {
+  listen
+  ./bare "$1" "${ports[0]}" articles "$files" "$count" "$2" 20 >told
+  awk '{ printf "%.6f 0\n", $3 / 1e9 }' told >times
   rate
 }
 # spent: microseconds of the last timed command an article.
@@ -136,12 +151,119 @@ window() {
   late=0
 }
 
+# measured NAME COMMAND ..: a run; its rate goes to the file NAME, and its processor time an article to NAME.spent.
+measured() {
+  "${@:2}" >>"$1"
+  echo "$(spent)" >>"$1.spent"
+}
+# figures NAME: the best of both.
+figures() { echo "$(greatest "$1") a second, $(least "$1.spent") us"; }
+# beside NAME OTHER WORDS: how many times the figures of the other, which are those of WORDS, those of NAME are.
+beside() {
+  awk -v rate="$(greatest "$1")" -v spent="$(least "$1.spent")" -v other="$(greatest "$2")" \
+    -v others="$(least "$2.spent")" -v words="$3" -v figures="$(figures "$2")" 'BEGIN {
+    printf "%.2f times the rate and %.2f times the processor time of %s (%s)",
+      rate / (other > 0 ? other : 1), spent / (others > 0 ? others : 1), words, figures
+  }'
+}
+
+# large: rates and processor time of articles of 1 MiB.
+large() {
+  local connections turn line
+  articles 1048576 $((most / 20 + 1)) $((most / 200 + 1))
+  for connections in 1 2 4 64; do
+    rm -f ours.* inns ./*.spent
+    for ((turn = 0; turn < runs; turn++)); do
+      measured ours.backlog from_backlog "$ours" "$connections"
+      measured ours.funnel from_funnel "$ours" "$connections"
+      [ ! -x "$inn" ] || measured inns from_inn "$connections"
+    done
+    line="1 MiB, $connections connections: from a backlog $(figures ours.backlog)"
+    [ ! -x "$inn" ] || line+=": $(beside ours.backlog inns "INN's")"
+    line+="; from a funnel $(figures ours.funnel)"
+    [ ! -x "$inn" ] || line+=": $(beside ours.funnel inns "INN's")"
+    echo "$line ($commit)"
+  done
+}
+
+# cell_bare: rates and processor time of this size over each number of connections, beside bare senders.
+cell_bare() {
+  local connections turn word line
+  for connections in 1 2 4; do
+    rm -f ours bare.files bare.memory ./*.spent
+    for ((turn = 0; turn < runs; turn++)); do
+      measured ours from_backlog "$ours" "$connections"
+      for word in files memory; do measured "bare.$word" from_bare "$word" "$connections"; done
+    done
+    line="$size octets, $connections connections: from a backlog $(figures ours)"
+    line+=": $(beside ours bare.files 'a bare sender from files')"
+    echo "$line, $(beside ours bare.memory 'one from memory') ($commit)"
+  done
+}
+
+# in_spool: the articles in a tradspool in wire format, a batch of their tokens for INN's innfeed and a funnel for ours.
+in_spool() {
+  rm -rf spool && mkdir -p spool/articles/misc/bench
+  echo 'misc/bench 1' >spool/tradspool.map
+  awk -v files="$files" 'BEGIN {
+    for (n = 1; n <= files; n++) {
+      text = "articles/" n
+      file = "spool/articles/misc/bench/" n
+      while ((getline line < text) > 0) {
+        sub(/^[.]/, "..", line)
+        printf "%s\r\n", line > file
+      }
+      printf ".\r\n" > file
+      close(text)
+      close(file)
+      token = sprintf("@0500%08X%08X%08X%08X@", 1, 0, n, 0)
+      print token, "<" n "@bench>" > "batch.spool"
+      print token, "<" n "@bench>", "p1" > "funnel.spool"
+    }
+  }'
+}
+
+# cell_spool: rates and processor time of this size from innd's spool, beside copies and INN's.
+cell_spool() {
+  local connections turn line
+  in_spool
+  for connections in 1 2 4; do
+    rm -f ours copies inns ./*.spent
+    for ((turn = 0; turn < runs; turn++)); do
+      innd_spool=$run/spool measured ours from_backlog "$ours" "$connections" funnel.spool
+      measured copies from_backlog "$ours" "$connections"
+      [ ! -x "$inn" ] || measured inns from_inn "$connections" batch.spool
+    done
+    line="$size octets, $connections connections: from innd's spool $(figures ours)"
+    line+=": $(beside ours copies copies)"
+    [ ! -x "$inn" ] || line+=", $(beside ours inns "INN's")"
+    echo "$line ($commit)"
+  done
+}
+
+# from_innd: the part of innd's spool, if the program reads one.
+from_innd() {
+  innd_spool=$run/spool settings 1 1
+  "$ours" -C -c conf >told
+  if grep -q innd-spool told; then # as a setting that is ignored
+    echo "feed.sh: no part spool, since $ours does not know the setting innd-spool" >&2
+    exit 1
+  fi
+  inn_conf "$run/spool"
+  each_size cell_spool
+  inn_conf "$run"
+}
+
+cc -O2 -o bare "$top/bench/bare.c"
 for part in "${parts[@]}"; do
   case $part in
     rates) each_size cell_rates ;;
     before) [ -z "${BEFORE-}" ] || each_size cell_ratios ;;
     costs) each_size cell_costs ;;
     late) window ;;
+    1MiB) large ;;
+    bare) each_size cell_bare ;;
+    spool) from_innd ;;
     *) echo "feed.sh: no part $part" >&2; exit 64 ;;
   esac
 done

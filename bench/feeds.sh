@@ -1,5 +1,6 @@
 # What the scripts share that feed articles to a peer in memory (bench/sink.c, built by cc), by our innfeed and by INN's;
-# each sources it after lib.sh, in a folder of its own, whose path is $run. $count is the number of articles.
+# each sources it after lib.sh, in a folder of its own, whose path is $run. $count is the number of articles, and $files
+# that of the files that have them, by turns.
 
 # INN's innfeed, where Debian's inn2 is installed.
 inn=/usr/lib/news/bin/innfeed
@@ -9,10 +10,11 @@ surroundings=()
 
 cc -O2 -o sink "$top/bench/sink.c"
 
-# What INN's innfeed wants to be there.
-mkdir inn
-printf 'method tradspool {\n newsgroups: *\n class: 0\n}\n' >inn/storage.conf
-cat >inn/inn.conf <<END
+# inn_conf SPOOL: what INN's innfeed wants to be there, if this is innd's spool.
+inn_conf() {
+  mkdir -p inn
+  printf 'method tradspool {\n newsgroups: *\n class: 0\n}\n' >inn/storage.conf
+  cat >inn/inn.conf <<END
 mta: "/bin/true %s"
 organization: "bench"
 pathhost: bench.example.com
@@ -24,24 +26,32 @@ pathetc: "$run/inn"
 pathdb: "$run/inn"
 pathlog: "$run/inn"
 pathrun: "$run/inn"
-pathspool: "$run"
-patharticles: "$run/articles"
+pathspool: "$1"
+patharticles: "$1/articles"
 END
+}
+inn_conf "$run"
 
-# articles SIZE COUNT: sets count; COUNT articles of about SIZE octets, a batch of them for INN's innfeed, and
-# funnels of them for ours: for the peer p1, and for p1 to p4.
+# articles SIZE COUNT [FILES]: sets count and files; COUNT articles of about SIZE octets in FILES files (COUNT), a batch
+# of them for INN's innfeed, and funnels of them for ours: for the peer p1, and for p1 to p4.
 articles() {
-  count=$2
+  count=$2 files=${3:-$2}
   rm -rf articles && mkdir articles
-  awk -v size="$1" -v count="$2" 'BEGIN {
-    while (length(body) < size - 80) body = body "A line of an article, as long as most of them are, or so.\n"
-    for (n = 1; n <= count; n++) {
+  awk -v size="$1" -v count="$count" -v files="$files" 'BEGIN {
+    line = "A line of an article, as long as most of them are, or so.\n"
+    while (length(lines) < 8000) lines = lines line
+    while (length(body) + length(lines) < size - 80) body = body lines
+    while (length(body) < size - 80) body = body line
+    for (n = 1; n <= files; n++) {
       file = "articles/" n
       printf "Subject: %d\nMessage-ID: <%d@bench>\n\n%s", n, n, body > file
       close(file)
-      print n, "<" n "@bench>" > "batch"
-      print n, "<" n "@bench>", "p1" > "funnel.1"
-      print n, "<" n "@bench>", "p1 p2 p3 p4" > "funnel.4"
+    }
+    for (n = 1; n <= count; n++) {
+      file = (n - 1) % files + 1
+      print file, "<" n "@bench>" > "batch"
+      print file, "<" n "@bench>", "p1" > "funnel.1"
+      print file, "<" n "@bench>", "p1 p2 p3 p4" > "funnel.4"
     }
   }'
 }
@@ -87,30 +97,35 @@ timed() {
   { time "$@" >told 2>&1 </dev/null; } 2>times || true
 }
 
-# cleared: an empty backlog directory.
-cleared() { rm -rf backlog && mkdir backlog; }
+# The backlog directory.
+backlog=$run/backlog
 
-# settings CONNECTIONS PORT ..: a configuration for ours, with a peer at each port.
+# cleared: an empty backlog directory.
+cleared() { rm -rf "$backlog" && mkdir "$backlog"; }
+
+# settings CONNECTIONS PORT ..: a configuration for ours, with a peer at each port, and with innd's spool $innd_spool, if
+# that is set.
 settings() {
   local connections=$1 peer=0 port
   shift
   {
     echo "news-spool: \"$run/articles\""
-    echo "backlog-directory: \"$run/backlog\""
+    [ -z "${innd_spool-}" ] || echo "innd-spool: \"$innd_spool\""
+    echo "backlog-directory: \"$backlog\""
     echo "status-file: \"$run/status\""
     echo "max-queue-size: 20 max-connections: $connections"
     for port in "$@"; do echo "peer p$((peer += 1)) { ip-name: 127.0.0.1 port-number: $port }"; done
   } >conf
 }
 
-# from_inn CONNECTIONS: the rate of INN's innfeed, which works off a backlog file.
+# from_inn CONNECTIONS [BATCH]: the rate of INN's innfeed, which works off a backlog file.
 from_inn() {
   cleared
-  cp batch backlog/p1
+  cp "${2:-batch}" "$backlog/p1"
   listen
   cat >conf <<END
 news-spool: "$run/articles"
-backlog-directory: "$run/backlog"
+backlog-directory: "$backlog"
 pid-file: "$run/inn/pid"
 log-file: "$run/inn/log"
 status-file: "$run/inn/status"
@@ -124,7 +139,7 @@ peer p1 {
   port-number: ${ports[0]}
 }
 END
-  timed env INNCONF="$run/inn/inn.conf" "${surroundings[@]}" "$inn" -c "$run/conf" -b "$run/backlog" -a "$run/articles" -x
+  timed env INNCONF="$run/inn/inn.conf" "${surroundings[@]}" "$inn" -c "$run/conf" -b "$backlog" -a "$run/articles" -x
   rate
 }
 

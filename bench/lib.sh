@@ -43,6 +43,15 @@ build_benchmark() {
   (top=$tree && build "$1")
 }
 
+# choose_feeder: sets `ours`, the innfeed that is measured: the one that $INNFEED names, or else that of this checkout,
+# which is built if it is stale.
+choose_feeder() {
+  ours=$top/crates/innfeed/out/innfeed
+  [ -n "${INNFEED-}" ] || { build innfeed; return; }
+  ours=$(readlink -m "$INNFEED") commit="of $INNFEED"
+  [ -f "$ours" ] && [ -x "$ours" ] || { echo "${0##*/}: $ours, which \$INNFEED names, is no program" >&2; exit 70; }
+}
+
 bench_program=$(program_of "$top" tool_bench)
 other_program=
 [ -z "${BEFORE-}" ] || other_program=$(program_of "$BEFORE" tool_bench)
