@@ -70,11 +70,14 @@ fn put_texts(answer: &mut Vec<u8>, conf: &Conf) -> Result<(), AllocError> {
     Ok(())
 }
 
-/// The paths of innd that a configuration gives, each after what it is.
+/// The paths of innd that a configuration gives, each after what it is, and `sync` if its CNFS buffers are synced.
 pub fn put_innd(answer: &mut Vec<u8>, text: &[u8]) -> Result<(), RowFault> {
     let conf = conf_in(*answer.allocator(), text)?;
     put_path(answer, b"spool", conf.innd_spool())?;
     put_path(answer, b"cycbuffs", conf.innd_cycbuffs())?;
+    if conf.sync_spool() {
+        put(answer, b"sync")?;
+    }
     Ok(())
 }
 

@@ -39,12 +39,18 @@ abbrev pub path_text : (key : List ℕ) → (path : Option (List ℕ)) → List 
 path_text key None = []
 path_text key (Some path) = line outside key (text_value path)
 
--- the paths of innd, if they are given
+-- whether innd's CNFS buffers are synced, if they are
+abbrev pub sync_text : (on : Bool) → List ℕ
+sync_text false = []
+sync_text true = line outside (codes "sync-spool") (switch_value true)
+
+-- the settings of innd's spool: its paths if they are given, and whether its CNFS buffers are synced if they are
 abbrev pub innd_text : Outcome → List ℕ
 innd_text outcome =
     path_text (codes "innd-spool") outcome.innd_spool ++ path_text (codes "innd-cycbuffs") outcome.innd_cycbuffs
+    ++ sync_text outcome.sync_spool
 
--- the settings of the file, without the paths of innd
+-- the settings of the file, without those of innd's spool
 abbrev pub file_text : Outcome → List ℕ
 file_text outcome =
     line outside (codes "news-spool") (text_value outcome.news_spool)

@@ -1,11 +1,11 @@
 // The settings of the file, and its peers.
 ghost use Rattle.std.specs.Prelude.{◌≡◌, ◌++◌, IfOk, OnOk, flat_map, map};
 ghost use Rattle.std.specs.Option.{option_map};
-ghost use Rattle.conf_text.specs.ConfText.{conf_text, file_text, innd_text, path_text, peer_text};
+ghost use Rattle.conf_text.specs.ConfText.{conf_text, file_text, innd_text, path_text, peer_text, sync_text};
 ghost use Rattle.feed_conf.specs.ConfView.{conf_view};
 ghost use Rattle.feed_conf.specs.PeerView.{settings_view};
 
-use crate::line::{add_number, add_text};
+use crate::line::{add_number, add_switch, add_text};
 use crate::peer::add_peer;
 use feed_conf::{Conf, PeerConf};
 use std::alloc::{AllocError, Global};
@@ -40,6 +40,7 @@ fn add_innd(out: &mut Vec<u8>, conf: &Conf) -> Result<(), AllocError>
 {
     add_path(out, b"innd-spool", conf.innd_spool())?;
     add_path(out, b"innd-cycbuffs", conf.innd_cycbuffs())?;
+    add_sync(out, conf.sync_spool())?;
     Ok(())
 }
 
@@ -51,6 +52,17 @@ fn add_path(out: &mut Vec<u8>, key: &[u8], path: Option<&[u8]>) -> Result<(), Al
     match path {
         None => Ok(()),
         Some(path) => add_text(out, b"", key, path),
+    }
+}
+
+// Whether innd's CNFS buffers are synced, if they are.
+fn add_sync(out: &mut Vec<u8>, on: bool) -> Result<(), AllocError>
+    ensures { OnOk result (out.new.items ≡ out.old.items ++ sync_text on) }
+{
+    if on {
+        add_switch(out, b"", b"sync-spool", on)
+    } else {
+        Ok(())
     }
 }
 

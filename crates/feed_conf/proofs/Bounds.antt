@@ -24,7 +24,7 @@ use Rattle.feed_conf.specs.declared.key.SettingKey.TheVariants.{InitialReconnect
 use Rattle.feed_conf.specs.declared.key.SettingKey.TheVariants.{BacklogLimit, BacklogLimitHighwater, BacklogFactor}
 use Rattle.feed_conf.specs.declared.key.SettingKey.TheVariants.{NewsSpool}
 use Rattle.feed_conf.specs.declared.key.SettingKey.TheVariants.{BacklogDirectory, StatusFile, UnknownLimit}
-use Rattle.feed_conf.specs.declared.key.SettingKey.TheVariants.{InndSpool, InndCycbuffs}
+use Rattle.feed_conf.specs.declared.key.SettingKey.TheVariants.{InndSpool, InndCycbuffs, SyncSpool}
 use Rattle.feed_conf.specs.declared.key.Kind.{Kind}
 use Rattle.feed_conf.specs.declared.key.Kind.TheVariants.{AnyText, ShortText, Switch, Connections, Number, Whole}
 use Rattle.feed_conf.specs.declared.key.Kind.TheVariants.{Fraction}
@@ -144,7 +144,8 @@ take-step : (state next : State) (line : ℕ) (name : List ℕ) (key : SettingKe
     use_taken state line name octets key r ≡ Ok next → AreBounded next.uses
 take-step state next line name key (Err kind) octets h t e = cc
 take-step state next line name key (Ok taken) octets h t e =
-    let entry : Use = record { block = number_in (innermost state.around); key = key; value = taken.value } in
+    let entry : Use =
+    record { line = line; block = number_in (innermost state.around); key = key; value = taken.value } in
     let more : State = record state { uses = state.uses ++ entry ∷ [] } in
     let is : cond taken.limited (report more line name octets true) more ≡ next = cc in
     subst (λ (s : State). AreBounded s.uses) is
@@ -257,6 +258,7 @@ index-key StatusFile = refl
 index-key UnknownLimit = refl
 index-key InndSpool = refl
 index-key InndCycbuffs = refl
+index-key SyncSpool = refl
 
 -- no two keys have one index
 index-once : (one other : SettingKey) → (row_of one).index ≡ (row_of other).index → one ≡ other
@@ -286,6 +288,7 @@ default-within StatusFile name = omega arith
 default-within UnknownLimit name = omega arith
 default-within InndSpool name = omega arith
 default-within InndCycbuffs name = omega arith
+default-within SyncSpool name = omega arith
 
 -- the value, if there is one, is at most the greatest of the key
 abbrev IsWithin : SettingKey → Option Value → Type 0

@@ -1,7 +1,7 @@
 -- The table of values, and the uses that it was made from.
 use Rattle.std.proofs.Common.{suc, zero, ◌≡◌, ◌==◌, ◌&&◌, ◌+◌, ◌<◌, ℕ, Bool, true, false, List, [], ◌∷◌, ◌++◌, length}
 use Rattle.std.proofs.Common.{map, take, get_or, cond, Option, None, Some, unwrap_or, refl, ap, ◌∙◌, sym, arith, inl}
-use Rattle.std.proofs.Common.{inr}
+use Rattle.std.proofs.Common.{inr, reverse}
 use Rattle.std.specs.Option.{option_map}
 use Rattle.std.specs.Ordering.{nat_cmp, is_eq}
 use Rattle.std.specs.Cmp.{tied_then, nat_cmp_is}
@@ -17,7 +17,10 @@ use Rattle.feed_conf.specs.declared.reader.Use.{Use as HeldUse}
 use Rattle.feed_conf.specs.Keys.{row_of}
 use Rattle.feed_conf.specs.ReaderView.{use_view}
 use Rattle.std.specs.BTreeMap.{BTreeMap, get}
-use Rattle.std.proofs.lemmas.List.{take_more, map-append}
+use Rattle.std.proofs.lemmas.List.{take_more, map-append, map_push, reverse-append}
+use Rattle.std.specs.List.{find}
+use Rattle.feed_conf.specs.Settings.{is_in_file, last_line}
+use Rattle.feed_conf.specs.declared.key.SettingKey.{SettingKey}
 
 later-assoc : (a b c : Option Value) → later (later a b) c ≡ later a (later b c)
 later-assoc None b c = refl
@@ -117,3 +120,31 @@ table-more values new uses i d at h k updates inv block index =
     ∙ table-step (held.block == block && (row_of held.key).index == index) held.value before
     (last_value block index (map use_view (take i uses))) (inv block index)
     ∙ sym (ap (last_value block index) more ∙ last-push block index (map use_view (take i uses)) (use_view held))
+
+map-reverse : {X Y : Type 0} (f : X → Y) (xs : List X) → map f (reverse xs) ≡ reverse (map f xs)
+map-reverse f [] = refl
+map-reverse f (x ∷ xs) =
+    ap (map f) (reverse-append (x ∷ []) xs) ∙ map_push f (reverse xs) x ∙ ap (λ l. l ++ f x ∷ []) (map-reverse f xs)
+    ∙ sym (reverse-append (f x ∷ []) (map f xs))
+
+found-step : {X Y : Type 0} (b : Bool) (f : X → Y) (x : X) (found : Option Y) (rest : Option X)
+    → found ≡ option_map f rest → cond b (Some (f x)) found ≡ option_map f (cond b (Some x) rest)
+found-step true f x found rest h = refl
+found-step false f x found rest h = h
+
+find-mapped : {X Y : Type 0} (f : X → Y) (test : Y → Bool) (xs : List X)
+    → find test (map f xs) ≡ option_map f (find (λ x. test (f x)) xs)
+find-mapped f test [] = refl
+find-mapped f test (x ∷ xs) =
+    found-step (test (f x)) f x (find test (map f xs)) (find (λ y. test (f y)) xs) (find-mapped f test xs)
+
+-- the last use in the scope of the file, of the uses as they are held
+pub last-held : (key : SettingKey) (uses : List HeldUse) (last : Option HeldUse)
+    → last ≡ find (λ held. is_in_file key (use_view held)) (reverse uses)
+    → last_line key (map use_view uses) ≡
+    unwrap_or (option_map (λ (entry : Use). entry.line) (option_map use_view last)) 0
+last-held key uses last h =
+    ap (λ us. unwrap_or (option_map (λ (entry : Use). entry.line) (find (is_in_file key) us)) 0)
+    (sym (map-reverse use_view uses))
+    ∙ ap (λ o. unwrap_or (option_map (λ (entry : Use). entry.line) o) 0)
+    (find-mapped use_view (is_in_file key) (reverse uses) ∙ ap (option_map use_view) (sym h))

@@ -17,6 +17,7 @@ conf_view conf = record {
   unknown_limit = conf.unknown_limit;
   innd_spool = path_in conf.innd_spool.items;
   innd_cycbuffs = path_in conf.innd_cycbuffs.items;
+  sync_spool = conf.sync_spool;
   peers = map settings_view conf.peers.items;
   reports = map report_view conf.ignored.items;
 }

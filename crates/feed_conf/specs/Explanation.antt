@@ -11,7 +11,7 @@ use Rattle.feed_conf.specs.Values.{Taken, taken_of}
 use Rattle.feed_conf.specs.declared.fault.ConfFault.{ConfFault}
 use Rattle.feed_conf.specs.declared.fault.ConfFaultKind.{ConfFaultKind}
 use Rattle.feed_conf.specs.declared.fault.ConfFaultKind.TheVariants.{NoValue, Unbalanced, BadPeerName, SamePeer}
-use Rattle.feed_conf.specs.declared.fault.ConfFaultKind.TheVariants.{LowAboveHigh, Range}
+use Rattle.feed_conf.specs.declared.fault.ConfFaultKind.TheVariants.{LowAboveHigh, NoCycbuffs, Range}
 use Rattle.feed_conf.specs.declared.key.SettingKey.{SettingKey}
 use Rattle.feed_conf.specs.declared.key.Kind.{Kind}
 use Rattle.feed_conf.specs.declared.key.Kind.TheVariants.{AnyText, ShortText, Switch, Connections, Number, Whole}
@@ -89,17 +89,27 @@ peer_text LowAboveHigh braced = codes "no-check-low is above no-check-high"
 peer_text _ true = codes "this block is inside a peer, or has no closing brace"
 peer_text _ false = codes "no brace follows; put it on the line of the name"
 
+-- what is wrong with a use of a key
+abbrev pub setting_text : ConfFaultKind → List ℕ
+setting_text NoCycbuffs = codes "true needs innd-cycbuffs; name innd's cycbuff.conf, or leave sync-spool out"
+setting_text _ = codes "no value follows; put it on the line of the key"
+
 -- what is wrong with an item that has this fault
 abbrev pub fault_words : ConfFaultKind → Item → List ℕ
 fault_words kind (Peer name braced) = codes "peer " ++ name ++ codes ": " ++ peer_text kind braced
 fault_words kind Group = codes "group: this block is inside a peer, or has no closing brace"
 fault_words kind Closes = codes "}: no block is open"
-fault_words kind (Uses key value) = key ++ codes ": no value follows; put it on the line of the key"
+fault_words kind (Uses key value) = key ++ codes ": " ++ setting_text kind
 fault_words kind (Stops stop) = stop_text stop
 
 abbrev pub is_peer : Item → Bool
 is_peer (Peer name braced) = true
 is_peer _ = false
+
+-- whether an item is a use of `sync-spool`
+abbrev pub is_sync : Item → Bool
+is_sync (Uses key value) = bytes_eq key (codes "sync-spool")
+is_sync _ = false
 
 abbrev pub lacks_colon : Stop → Bool
 lacks_colon (NoColon word) = true
@@ -124,6 +134,7 @@ may_have Unbalanced item = may_be_unbalanced item
 may_have BadPeerName item = is_peer item
 may_have SamePeer item = is_peer item
 may_have LowAboveHigh item = is_peer item
+may_have NoCycbuffs item = is_sync item
 may_have _ item = false
 
 -- the item, if there is only one
@@ -147,6 +158,7 @@ words_of Unbalanced = Some (codes "a quote or a brace has no counterpart, or a b
 words_of BadPeerName = Some (codes "the name of the peer is missing or invalid")
 words_of SamePeer = Some (codes "a peer of this name is declared above")
 words_of LowAboveHigh = Some (codes "no-check-low of this peer is above its no-check-high")
+words_of NoCycbuffs = Some (codes "sync-spool is true, and innd-cycbuffs is not given")
 words_of _ = None
 
 -- the line on a fault that is not of a value

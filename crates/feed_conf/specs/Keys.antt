@@ -10,7 +10,7 @@ use Rattle.feed_conf.specs.declared.key.SettingKey.TheVariants.{ResponseTimeout,
 use Rattle.feed_conf.specs.declared.key.SettingKey.TheVariants.{MaxReconnectTime, DropDeferred, BacklogLimit}
 use Rattle.feed_conf.specs.declared.key.SettingKey.TheVariants.{BacklogLimitHighwater, BacklogFactor, NewsSpool}
 use Rattle.feed_conf.specs.declared.key.SettingKey.TheVariants.{BacklogDirectory, StatusFile, UnknownLimit}
-use Rattle.feed_conf.specs.declared.key.SettingKey.TheVariants.{InndSpool, InndCycbuffs}
+use Rattle.feed_conf.specs.declared.key.SettingKey.TheVariants.{InndSpool, InndCycbuffs, SyncSpool}
 use Rattle.feed_conf.specs.declared.key.Kind.{Kind}
 use Rattle.feed_conf.specs.declared.key.Kind.TheVariants.{AnyText, ShortText, Switch, Connections, Number, Whole, Fraction}
 
@@ -49,12 +49,15 @@ row_of InndSpool =
     record { index = 19; name = codes "innd-spool"; kind = AnyText; of_file = true; default = λ peer. TextOf [] }
 row_of InndCycbuffs =
     record { index = 20; name = codes "innd-cycbuffs"; kind = AnyText; of_file = true; default = λ peer. TextOf [] }
+row_of SyncSpool =
+    record { index = 21; name = codes "sync-spool"; kind = Switch; of_file = true; default = λ peer. SwitchOf false }
 
 abbrev pub all_keys : List SettingKey
 all_keys =
     IpName ∷ PortNumber ∷ Streaming ∷ MaxConnections ∷ MaxQueueSize ∷ NoCheckHigh ∷ NoCheckLow ∷ NoCheckFilter
     ∷ ResponseTimeout ∷ InitialReconnectTime ∷ MaxReconnectTime ∷ DropDeferred ∷ BacklogLimit ∷ BacklogLimitHighwater
-    ∷ BacklogFactor ∷ NewsSpool ∷ BacklogDirectory ∷ StatusFile ∷ UnknownLimit ∷ InndSpool ∷ InndCycbuffs ∷ []
+    ∷ BacklogFactor ∷ NewsSpool ∷ BacklogDirectory ∷ StatusFile ∷ UnknownLimit ∷ InndSpool ∷ InndCycbuffs ∷ SyncSpool
+    ∷ []
 
 abbrev pub key_of : List ℕ → Option SettingKey
 key_of name = find (λ key. bytes_eq (row_of key).name name) all_keys

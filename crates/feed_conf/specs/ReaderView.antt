@@ -14,7 +14,7 @@ use Rattle.feed_conf.specs.declared.fault.ConfFaultKind.{ConfFaultKind}
 use Rattle.feed_conf.specs.declared.fault.ConfFaultKind.TheVariants.{NoMemory}
 
 abbrev pub use_view : HeldUse → Use
-use_view held = record { block = held.block; key = held.key; value = value_view held.value }
+use_view held = record { line = held.line; block = held.block; key = held.key; value = value_view held.value }
 
 abbrev pub declared_view : HeldPeer → Declared
 declared_view peer = record { name = peer.name; line = peer.line; block = peer.block }

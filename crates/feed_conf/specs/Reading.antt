@@ -14,8 +14,9 @@ use Rattle.feed_conf.specs.declared.fault.ConfFault.{ConfFault}
 use Rattle.feed_conf.specs.declared.fault.ConfFaultKind.{ConfFaultKind}
 use Rattle.feed_conf.specs.declared.fault.ConfFaultKind.TheVariants.{NoValue, Unbalanced, BadPeerName, SamePeer}
 
--- A use of a key of the profile that counts, with the number of its block, 0 for the scope of the file.
+-- A use of a key of the profile that counts, with its line and the number of its block, 0 for the scope of the file.
 pub record Use : Type 0 where
+  pub line : ℕ
   pub block : ℕ
   pub key : SettingKey
   pub value : Value
@@ -107,7 +108,7 @@ use_taken state line name value key (Ok taken) =
     let next =
     record state {
       uses = state.uses ++ record
-          { block = number_in (innermost state.around); key = key; value = taken.value } ∷ [];
+          { line = line; block = number_in (innermost state.around); key = key; value = taken.value } ∷ [];
     } in
     Ok (if taken.limited then report next line name value true else next)
 

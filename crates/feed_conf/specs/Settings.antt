@@ -1,7 +1,9 @@
 -- The values of a peer, computed from the uses of keys (profile).
-use Rattle.std.specs.Prelude.{◌==◌, ◌&&◌, ◌-◌, ◌*◌, ◌/◌, ℕ, suc, zero, Bool, false, List, [], ◌∷◌}
-use Rattle.std.specs.Prelude.{nat_lt, map, Option, None, Some, Result, Ok, Err, unwrap_or, if◌then◌else◌}
+use Rattle.std.specs.Prelude.{◌==◌, ◌&&◌, ◌-◌, ◌*◌, ◌/◌, ℕ, suc, zero, Bool, false, true, List, [], ◌∷◌}
+use Rattle.std.specs.Prelude.{is_none, nat_lt, map, reverse, Option, None, Some, Result, Ok, Err, unwrap_or}
+use Rattle.std.specs.Prelude.{if◌then◌else◌}
 use Rattle.std.specs.List.{find, slice_index}
+use Rattle.std.specs.Option.{option_map}
 use Rattle.feed_conf.specs.Lexemes.{Lexeme}
 use Rattle.feed_conf.specs.Keys.{row_of}
 use Rattle.feed_conf.specs.Values.{Value, TextOf, SwitchOf, NumberOf}
@@ -14,9 +16,9 @@ use Rattle.feed_conf.specs.declared.key.SettingKey.TheVariants.{InitialReconnect
 use Rattle.feed_conf.specs.declared.key.SettingKey.TheVariants.{BacklogLimit, BacklogLimitHighwater, BacklogFactor}
 use Rattle.feed_conf.specs.declared.key.SettingKey.TheVariants.{NewsSpool}
 use Rattle.feed_conf.specs.declared.key.SettingKey.TheVariants.{BacklogDirectory, StatusFile, UnknownLimit}
-use Rattle.feed_conf.specs.declared.key.SettingKey.TheVariants.{InndSpool, InndCycbuffs}
+use Rattle.feed_conf.specs.declared.key.SettingKey.TheVariants.{InndSpool, InndCycbuffs, SyncSpool}
 use Rattle.feed_conf.specs.declared.fault.ConfFault.{ConfFault}
-use Rattle.feed_conf.specs.declared.fault.ConfFaultKind.TheVariants.{LowAboveHigh}
+use Rattle.feed_conf.specs.declared.fault.ConfFaultKind.TheVariants.{LowAboveHigh, NoCycbuffs}
 
 -- the later of two values, if there is one
 abbrev pub later : Option Value → Option Value → Option Value
@@ -62,6 +64,14 @@ value_of uses outer peer key =
 -- the value of a key that is allowed only outside all blocks
 abbrev pub value_in_file : List Use → SettingKey → Value
 value_in_file uses key = unwrap_or (last_value 0 (row_of key).index uses) ((row_of key).default [])
+
+-- whether a use is one of this key in the scope of the file
+abbrev pub is_in_file : SettingKey → Use → Bool
+is_in_file key entry = entry.block == 0 && (row_of entry.key).index == (row_of key).index
+
+-- the line of the last use of a key in the scope of the file, 0 if there is none
+abbrev pub last_line : SettingKey → List Use → ℕ
+last_line key uses = unwrap_or (option_map (λ (entry : Use). entry.line) (find (is_in_file key) (reverse uses))) 0
 
 -- the content of a value (each key has values of one kind alone)
 abbrev pub number : Value → ℕ
@@ -135,6 +145,11 @@ abbrev pub is_low_above_high : List Use → (outer : List ℕ) → Declared → 
 is_low_above_high uses outer peer =
     nat_lt (number (value_of uses outer peer NoCheckHigh)) (number (value_of uses outer peer NoCheckLow))
 
+-- CNFS buffers are to be synced, and innd's list of them is not given
+abbrev pub lacks_cycbuffs : List Use → Bool
+lacks_cycbuffs uses =
+    switch (value_in_file uses SyncSpool) && is_none (path_in (text (value_in_file uses InndCycbuffs)))
+
 pub record Outcome : Type 0 where
   pub news_spool : List ℕ
   pub backlog_directory : List ℕ
@@ -144,6 +159,8 @@ pub record Outcome : Type 0 where
   -- innd's spool and its list of CNFS buffers, if they are given
   pub innd_spool : Option (List ℕ)
   pub innd_cycbuffs : Option (List ℕ)
+  -- whether innd's CNFS buffers are synced before lines are acknowledged
+  pub sync_spool : Bool
   -- the peers in the order of their declarations
   pub peers : List Settings
   -- what is ignored or limited, in reading order
@@ -157,17 +174,21 @@ outcome_of state = record {
   unknown_limit = number (value_in_file state.uses UnknownLimit);
   innd_spool = path_in (text (value_in_file state.uses InndSpool));
   innd_cycbuffs = path_in (text (value_in_file state.uses InndCycbuffs));
+  sync_spool = switch (value_in_file state.uses SyncSpool);
   peers = map (settings_of state.uses state.outer) state.peers;
   reports = state.reports;
 }
 
--- After the whole text, the first peer whose shares are crossed is a fault, at the line of its declaration.
-abbrev pub judged_by : Option Declared → State → Result Outcome ConfFault
-judged_by None state = Ok (outcome_of state)
-judged_by (Some peer) state = Err (record { line = peer.line; kind = LowAboveHigh })
+-- After the whole text, the first peer whose shares are crossed is a fault, at the line of its declaration. If there is
+-- none, a list of CNFS buffers that is lacking is a fault, at the line of the last use of `sync-spool`.
+abbrev pub judged_by : Option Declared → (lacks_cycbuffs : Bool) → State → Result Outcome ConfFault
+judged_by None false state = Ok (outcome_of state)
+judged_by None true state = Err (record { line = last_line SyncSpool state.uses; kind = NoCycbuffs })
+judged_by (Some peer) lacks_cycbuffs state = Err (record { line = peer.line; kind = LowAboveHigh })
 
 abbrev pub judged : Result State ConfFault → Result Outcome ConfFault
-judged (Ok state) = judged_by (find (is_low_above_high state.uses state.outer) state.peers) state
+judged (Ok state) =
+    judged_by (find (is_low_above_high state.uses state.outer) state.peers) (lacks_cycbuffs state.uses) state
 judged (Err fault) = Err fault
 
 -- what lines with these lexemes mean, or their first fault

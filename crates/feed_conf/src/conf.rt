@@ -64,6 +64,7 @@ pub struct Conf {
     // Empty if it is not given, as is the next one.
     pub(crate) innd_spool: Vec<u8>,
     pub(crate) innd_cycbuffs: Vec<u8>,
+    pub(crate) sync_spool: bool,
     pub(crate) peers: Vec<PeerConf>,
     pub(crate) ignored: Vec<Ignored>,
     pub(crate) names: BTreeMap<String, usize>,
@@ -162,5 +163,12 @@ impl Conf {
         ensures { option_map (λ path. path.now) result ≡ (conf_view self.now).innd_cycbuffs }
     {
         path_in(&self.innd_cycbuffs)
+    }
+
+    /// Whether innd's CNFS buffers are synced before lines are acknowledged; then `innd_cycbuffs` is given.
+    pub fn sync_spool(&self) -> bool
+        ensures { result ≡ (conf_view self.now).sync_spool }
+    {
+        self.sync_spool
     }
 }

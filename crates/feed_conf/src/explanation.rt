@@ -3,9 +3,10 @@ ghost use Rattle.std.specs.Prelude.{◌≡◌, ◌++◌, ◌∷◌, [], IfOk, Ma
 ghost use Rattle.std.specs.Prelude.{filter, flat_map, map};
 ghost use Rattle.std.specs.Option.{option_map};
 ghost use Rattle.feed_conf.specs.Explanation.{allowed_text, explanation, item_text, items_text};
-ghost use Rattle.feed_conf.specs.Explanation.{colon_text, fault_text, fault_words, is_peer, item_at_fault, lacks_colon};
+ghost use Rattle.feed_conf.specs.Explanation.{colon_text, fault_text, fault_words, is_peer, is_sync, item_at_fault};
+ghost use Rattle.feed_conf.specs.Explanation.{lacks_colon};
 ghost use Rattle.feed_conf.specs.Explanation.{line_at, may_be_unbalanced, may_have, may_lack_value, only, peer_text};
-ghost use Rattle.feed_conf.specs.Explanation.{number_text, place_text, stop_text, words_text};
+ghost use Rattle.feed_conf.specs.Explanation.{number_text, place_text, setting_text, stop_text, words_text};
 ghost use Rattle.feed_conf.specs.Explanation.{reason_text, taken_text, words_of};
 ghost use Rattle.feed_conf.specs.Items.{items_of};
 ghost use Rattle.feed_conf.specs.ItemView.{item_view, stop_view};
@@ -99,6 +100,7 @@ fn may_have(kind: ConfFaultKind, item: Item<'_>) -> bool
         ConfFaultKind::BadPeerName => is_peer(item),
         ConfFaultKind::SamePeer => is_peer(item),
         ConfFaultKind::LowAboveHigh => is_peer(item),
+        ConfFaultKind::NoCycbuffs => is_sync(item),
         _ => false,
     }
 }
@@ -137,6 +139,16 @@ fn is_peer(item: Item<'_>) -> bool
 {
     match item {
         Item::Peer(_, _) => true,
+        _ => false,
+    }
+}
+
+// Whether an item is a use of `sync-spool`.
+fn is_sync(item: Item<'_>) -> bool
+    ensures { result ≡ is_sync (item_view item.entry) }
+{
+    match item {
+        Item::Uses(key, _) => is_text(key, b"sync-spool"),
         _ => false,
     }
 }
@@ -200,9 +212,22 @@ fn add_fault_words(out: &mut Vec<u8>, kind: ConfFaultKind, item: Item<'_>) -> Re
         Item::Closes => out.extend_from_slice(b"}: no block is open"),
         Item::Uses(key, _) => {
             out.extend_from_slice(key)?;
-            out.extend_from_slice(b": no value follows; put it on the line of the key")
+            out.extend_from_slice(b": ")?;
+            out.extend_from_slice(setting_words(kind))
         }
         Item::Stops(stop) => add_stop(out, stop),
+    }
+}
+
+// What is wrong with a use of a key.
+fn setting_words(kind: ConfFaultKind) -> &'static [u8]
+    ensures { result.now ≡ setting_text kind }
+{
+    match kind {
+        ConfFaultKind::NoCycbuffs => {
+            b"true needs innd-cycbuffs; name innd's cycbuff.conf, or leave sync-spool out"
+        }
+        _ => b"no value follows; put it on the line of the key",
     }
 }
 
@@ -274,6 +299,7 @@ fn words_of(kind: ConfFaultKind) -> Option<&'static [u8]>
         ConfFaultKind::LowAboveHigh => {
             Some(b"no-check-low of this peer is above its no-check-high")
         }
+        ConfFaultKind::NoCycbuffs => Some(b"sync-spool is true, and innd-cycbuffs is not given"),
         _ => None,
     }
 }

@@ -26,6 +26,8 @@ pub enum ConfFaultKind {
     LowAboveHigh,
     /// A number is below the least value of its key, or a text is too long or too short.
     Range,
+    /// `sync-spool` is true, and `innd-cycbuffs` is not given.
+    NoCycbuffs,
     /// Memory was refused.
     NoMemory,
 }
@@ -44,6 +46,7 @@ impl ConfFaultKind {
             ConfFaultKind::SamePeer => "SamePeer",
             ConfFaultKind::LowAboveHigh => "LowAboveHigh",
             ConfFaultKind::Range => "Range",
+            ConfFaultKind::NoCycbuffs => "NoCycbuffs",
             ConfFaultKind::NoMemory => "NoMemory",
         }
     }

@@ -72,9 +72,11 @@ pub(crate) enum SettingKey {
     InndSpool,
     /// innd's list of CNFS buffers, INN's cycbuff.conf.
     InndCycbuffs,
+    /// Whether innd's CNFS buffers are synced before lines are acknowledged.
+    SyncSpool,
 }
 
-const KEYS: [SettingKey; 21] = [
+const KEYS: [SettingKey; 22] = [
     SettingKey::IpName,
     SettingKey::PortNumber,
     SettingKey::Streaming,
@@ -96,6 +98,7 @@ const KEYS: [SettingKey; 21] = [
     SettingKey::UnknownLimit,
     SettingKey::InndSpool,
     SettingKey::InndCycbuffs,
+    SettingKey::SyncSpool,
 ];
 
 #[derive(Clone, Copy)]
@@ -189,6 +192,25 @@ fn file_number(index: usize, name: &'static [u8], kind: Kind, default: u64) -> R
     }
 }
 
+fn file_switch(index: usize, name: &'static [u8], default: bool) -> Row
+    ensures { row_view result
+        ≡ record {
+          index = index;
+          name = name.now;
+          kind = Switch;
+          of_file = true;
+          default = λ _. SwitchOf default;
+        } }
+{
+    Row {
+        index,
+        name,
+        kind: Kind::Switch,
+        of_file: true,
+        default: Some(Value::Switch(default)),
+    }
+}
+
 impl SettingKey {
     fn row(self) -> Row
         ensures { row_view result ≡ row_of self }
@@ -231,6 +253,7 @@ impl SettingKey {
             SettingKey::UnknownLimit => file_number(18, b"unknown-limit", OCTETS, 67_108_864),
             SettingKey::InndSpool => file_text(19, b"innd-spool", b""),
             SettingKey::InndCycbuffs => file_text(20, b"innd-cycbuffs", b""),
+            SettingKey::SyncSpool => file_switch(21, b"sync-spool", false),
         }
     }
 

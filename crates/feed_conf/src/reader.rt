@@ -33,6 +33,7 @@ pub(crate) struct OpenBlock {
 /// A use of a key that counts.
 #[derive(Clone, Copy)]
 pub(crate) struct Use<'t> {
+    pub(crate) line: u64,
     /// The number of its block, 0 for the scope of the file.
     pub(crate) block: usize,
     pub(crate) key: SettingKey,
@@ -258,6 +259,7 @@ impl<'t> Reader<'t> {
     {
         let block = self.number();
         self.uses.push(Use {
+            line,
             block,
             key,
             value: taken.value,

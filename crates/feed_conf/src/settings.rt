@@ -1,20 +1,39 @@
 // A configuration, read as a whole.
-ghost use Rattle.std.specs.Prelude.{◌≡◌, List, Ok};
+ghost use Rattle.std.specs.Prelude.{◌≡◌, ◌&&◌, List, MatchResult, Ok, false, is_none, true};
 ghost use Rattle.feed_conf.specs.Bounds.{AreBounded};
 ghost use Rattle.feed_conf.specs.Lexemes.{Lexeme};
 ghost use Rattle.feed_conf.specs.Reading.{HaveLexemes, lines_of};
 ghost use Rattle.feed_conf.specs.ReaderView.{IsNamed, reader_view};
-ghost use Rattle.feed_conf.specs.Settings.{judged, meaning};
+ghost use Rattle.feed_conf.specs.Settings.{judged, last_line, meaning, path_in};
+ghost use Rattle.feed_conf.specs.TableView.{uses_view};
+ghost use Rattle.feed_conf.specs.declared.fault.ConfFaultKind.TheVariants.{NoCycbuffs};
+ghost use Rattle.feed_conf.specs.declared.key.SettingKey.TheVariants.{SyncSpool};
 ghost use Rattle.feed_conf.specs.ConfView.{Makes};
 
 use crate::conf::Conf;
-use crate::fault::ConfFault;
+use crate::fault::{ConfFault, ConfFaultKind};
 use crate::key::SettingKey;
 use crate::peers::peer_confs;
 use crate::read::read_text;
-use crate::reader::Reader;
-use crate::table::table_of;
+use crate::reader::{Reader, Use};
+use crate::table::{last_line, table_of};
 use std::alloc::Global;
+
+// CNFS buffers are synced only if innd's list of them is given.
+fn check_sync(uses: &[Use<'_>], sync_spool: bool, cycbuffs: &[u8]) -> Result<(), ConfFault>
+    ensures { MatchResult result
+        (λ _. (sync_spool && is_none (path_in cycbuffs.now)) ≡ false)
+        (λ fault. ((sync_spool && is_none (path_in cycbuffs.now)) ≡ true)
+        × (fault ≡ record { line = last_line SyncSpool (uses_view uses.now); kind = NoCycbuffs })) }
+{
+    if sync_spool && cycbuffs.is_empty() {
+        return Err(ConfFault {
+            line: last_line(uses, SettingKey::SyncSpool),
+            kind: ConfFaultKind::NoCycbuffs,
+        });
+    }
+    Ok(())
+}
 
 fn make_conf(alloc: Global, reader: Reader<'_>) -> Result<Conf, ConfFault>
     requires named { IsNamed reader }
@@ -29,6 +48,8 @@ fn make_conf(alloc: Global, reader: Reader<'_>) -> Result<Conf, ConfFault>
     let unknown_limit = table.file_number(SettingKey::UnknownLimit);
     let innd_spool = table.file_text(alloc, SettingKey::InndSpool)?;
     let innd_cycbuffs = table.file_text(alloc, SettingKey::InndCycbuffs)?;
+    let sync_spool = table.file_switch(SettingKey::SyncSpool);
+    check_sync(&reader.uses, sync_spool, &innd_cycbuffs)?;
     let Reader {
         alloc: _,
         around: _,
@@ -46,6 +67,7 @@ fn make_conf(alloc: Global, reader: Reader<'_>) -> Result<Conf, ConfFault>
         unknown_limit,
         innd_spool,
         innd_cycbuffs,
+        sync_spool,
         peers,
         ignored,
         names,
@@ -56,7 +78,9 @@ fn make_conf(alloc: Global, reader: Reader<'_>) -> Result<Conf, ConfFault>
 ///
 /// # Errors
 /// The first fault in reading order. A peer whose shares are crossed counts only if the text has no other fault: the
-/// first such peer is reported, at the line of its declaration. `NoMemory` if memory was refused.
+/// first such peer is reported, at the line of its declaration. If there is none, `NoCycbuffs` is reported if
+/// `sync-spool` is true and `innd-cycbuffs` is not given or empty, at the line of the last use of `sync-spool` outside
+/// all blocks. `NoMemory` if memory was refused.
 pub fn read_conf(alloc: Global, text: &[u8]) -> Result<Conf, ConfFault>
     ensures meaning { (lines : List (List Lexeme)) → HaveLexemes (lines_of text.now) lines
         → Makes (meaning lines) result }

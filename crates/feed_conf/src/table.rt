@@ -1,11 +1,12 @@
 // The values of keys, by block.
-ghost use Rattle.std.specs.Prelude.{◌≡◌, List, IfOk};
-ghost use Rattle.std.specs.Option.{option_map};
+ghost use Rattle.std.specs.Prelude.{◌≡◌, List, IfOk, reverse};
+ghost use Rattle.std.specs.List.{find};
+ghost use Rattle.std.specs.Option.{option_copied, option_map};
 ghost use Rattle.feed_conf.specs.Keys.{row_of};
 ghost use Rattle.feed_conf.specs.Reading.{Use as Noted};
-ghost use Rattle.feed_conf.specs.ReaderView.{declared_view};
-ghost use Rattle.feed_conf.specs.Settings.{block_around, last_value, number, path_of, switch, text, value_along};
-ghost use Rattle.feed_conf.specs.Settings.{value_in_file, value_of};
+ghost use Rattle.feed_conf.specs.ReaderView.{declared_view, use_view};
+ghost use Rattle.feed_conf.specs.Settings.{block_around, is_in_file, last_line, last_value, number, path_of};
+ghost use Rattle.feed_conf.specs.Settings.{switch, text, value_along, value_in_file, value_of};
 ghost use Rattle.feed_conf.specs.TableView.{IsTableOf, uses_view};
 ghost use Rattle.feed_conf.specs.ValueView.{value_view};
 
@@ -31,6 +32,26 @@ pub(crate) fn table_of<'t>(alloc: Global, uses: &[Use<'t>]) -> Result<Table<'t>,
         values.insert(index, value)?;
     }
     Ok(Table { values })
+}
+
+// The last use of a key in the scope of the file.
+fn last_use<'u, 't>(uses: &'u [Use<'t>], key: SettingKey) -> Option<&'u Use<'t>>
+    ensures { option_copied result
+        ≡ find (λ held. is_in_file key (use_view held)) (reverse uses.now) }
+{
+    uses.iter()
+        .rev()
+        .find(|held| held.block == 0 && held.key.index() == key.index())
+}
+
+/// The line of the last use of a key in the scope of the file, 0 if there is none.
+pub(crate) fn last_line(uses: &[Use<'_>], key: SettingKey) -> u64
+    ensures { result ≡ last_line key (uses_view uses.now) }
+{
+    match last_use(uses, key) {
+        None => 0,
+        Some(held) => held.line,
+    }
 }
 
 // The number of the block around a block, 0 for the scope of the file.
@@ -122,6 +143,18 @@ impl<'t> Table<'t> {
             Value::Number(number) => number,
             Value::Text(_) => 0,
             Value::Switch(_) => 0,
+        }
+    }
+
+    pub(crate) fn file_switch(&self, key: SettingKey) -> bool
+        ensures { (uses : List Noted) → IsTableOf self.now uses
+            → result ≡ switch (value_in_file uses key) }
+    {
+        let default = key.default_value(&[]);
+        match self.last_value(0, key).unwrap_or(default) {
+            Value::Switch(on) => on,
+            Value::Text(_) => false,
+            Value::Number(_) => false,
         }
     }
 
