@@ -2,6 +2,7 @@
 ghost use Rattle.std.specs.Prelude.{◌≡◌, Err, IfErr, IsSome, None, OnOk, Some};
 ghost use Rattle.flusher.specs.Faults.{IsOfTape};
 
+use crate::article_sync::{ArticleSync, NoSync};
 use crate::pace::Pace;
 use crate::share::FeederShare;
 use crate::signals::Signals;
@@ -20,21 +21,36 @@ const SLOW_MIN_SECONDS: u64 = 1;
 /// Before the flush of an order it drops what exceeds the peers' limits; after each flush it rewrites the tapes for
 /// which that is due.
 ///
-/// Once a tape has failed, as this or another worker found, it flushes the stations that work, as often as before and
-/// once more at its end, so that the answers of their peers are kept. It drops and rewrites nothing any more, and no
-/// receipt comes. Every other fault ends it, and stops all workers.
+/// What acknowledged lines name is durable before they are acknowledged, if `articles` sees to that.
+///
+/// Once a tape has failed, as this or another worker found, or an article may not be durable, it flushes the stations
+/// that work, as often as before and once more at its end, so that the answers of their peers are kept. It drops and
+/// rewrites nothing any more, and no receipt comes. Every other fault ends it, and stops all workers.
 #[derive(Drop)]
-pub struct Flusher<N: Naming> {
+pub struct Flusher<N: Naming, A = NoSync> {
     /// What it has dropped.
     pub share: FeederShare<N>,
+    /// What makes the articles durable.
+    pub articles: A,
     /// The first fault that it met.
     pub fault: Option<PostFault>,
 }
 
 impl<N: Naming> Flusher<N> {
-    /// One that counts by this share.
+    /// One that counts by this share, and leaves the articles to whoever keeps them.
     pub fn new(share: FeederShare<N>) -> Flusher<N> {
-        Flusher { share, fault: None }
+        Flusher::with_articles(share, NoSync)
+    }
+}
+
+impl<N: Naming, A> Flusher<N, A> {
+    /// One that counts by this share. `articles` makes durable what lines name.
+    pub fn with_articles(share: FeederShare<N>, articles: A) -> Flusher<N, A> {
+        Flusher {
+            share,
+            articles,
+            fault: None,
+        }
     }
 
     // Keeps a fault, if it is the first.
@@ -47,7 +63,9 @@ impl<N: Naming> Flusher<N> {
             self.fault = Some(fault);
         }
     }
+}
 
+impl<N: Naming, A: ArticleSync> Flusher<N, A> {
     // Drops what exceeds each peer's limit.
     fn shed_all<D: Disk, R: Wait>(&mut self, rt: &R, post: &Post<D, N>) -> Result<(), PostFault> {
         for peer in 0..post.peers() {
@@ -57,7 +75,7 @@ impl<N: Naming> Flusher<N> {
     }
 
     // Flushes everything, and signals the receipt for the first `orders` orders. If the flush was ordered, what exceeds
-    // the limits is dropped first.
+    // the limits is dropped first. If an article may not be durable, no receipt comes, as if a tape were lost.
     fn flush<D: Disk, R: Wait + Clock + Log, P: Pace>(
         &mut self,
         rt: &R,
@@ -71,7 +89,12 @@ impl<N: Naming> Flusher<N> {
             self.shed_all(rt, post)?;
         }
         let begun = Instant::now(rt);
-        let receipt = post.flush_all(rt, pace)?;
+        let last = post.last_taken(rt);
+        let Ok(last) = self.articles.sync(rt, last) else {
+            signals.lose_tape();
+            return post.flush_working(rt, pace);
+        };
+        let receipt = post.flush_up_to(rt, pace, last)?;
         if let Ok(begun) = begun {
             log_slow(rt, begun);
         }
@@ -121,7 +144,7 @@ impl<N: Naming> Flusher<N> {
     }
 }
 
-impl<D: Disk, N: Naming> Work<D, N> for Flusher<N> {
+impl<D: Disk, N: Naming, A: ArticleSync> Work<D, N> for Flusher<N, A> {
     fn run<R: AllocGlobal + Wait + Clock + Log, P: Pace>(
         &mut self,
         rt: &R,

@@ -8,7 +8,7 @@ ghost use Rattle.recovery.specs.Words.{IsDue, IsRotateFault, generation_of, ledg
 
 use crate::pace::{Pace, Place, Who};
 use crate::post::Intake;
-use crate::sealing::{Due, Sealing};
+use crate::sealing::{Due, Sealing, SyncedLine, TakenLine};
 use crate::tape_desk::Flush;
 use crate::{Naming, Post, PostFault, Receipt};
 use disk_model::Disk;
@@ -18,19 +18,42 @@ use recovery::TapeFault;
 use std::sync::Wait;
 
 impl<D: Disk, N: Naming> Post<D, N> {
+    /// The number up to which lines are acknowledged by a flush that begins now.
+    pub fn last_taken<R: Wait>(&self, rt: &R) -> TakenLine {
+        *self.last.lock(rt)
+    }
+
+    /// Puts all that pends on the disks, and acknowledges each line that was taken before, as [`Post::flush_up_to`]
+    /// does. It leaves articles to whoever keeps them.
+    ///
+    /// # Errors
+    /// Those of [`Post::flush_up_to`].
+    pub fn flush_all<P: Pace, R: Wait>(&self, rt: &R, pace: &P) -> Result<Receipt, PostFault>
+        ensures kinds { IfErr result (IsFlushAllFault (length self.now.names)) }
+    {
+        let last = self.last_taken(rt);
+        self.flush_up_to(rt, pace, SyncedLine::of(last))
+    }
+
     /// Puts all that pends on the disks: peer by peer in the order of their names, each in rounds until all is settled
-    /// that pended when its part began; and then, on the intake's tape, the number that the last line had before the
-    /// first flush. If a tape has no room for what pends, it is rewritten, the notes that pend included.
+    /// that pended when its part began; and then, on the intake's tape, this number. If a tape has no room for what
+    /// pends, it is rewritten, the notes that pend included.
     ///
     /// # Errors
     /// A station's: `Broken`; `Tape(Disk)`, after which its front is broken, too; `Tape(TapeFull)` if what it owes is
     /// too long even for a rewritten tape, or if its tape has the greatest generation; `Tape(Note)`, which no run
     /// meets; `NoMemory`. `NoMemory` if the copy of a note found none. `Stranger`, which no run meets. Then the intake
     /// tape's.
-    pub fn flush_all<P: Pace, R: Wait>(&self, rt: &R, pace: &P) -> Result<Receipt, PostFault>
+    pub fn flush_up_to<P: Pace, R: Wait>(
+        &self,
+        rt: &R,
+        pace: &P,
+        last: SyncedLine,
+    ) -> Result<Receipt, PostFault>
+        ensures number { IfOk result (λ receipt. receipt.number ≡ last.number) }
         ensures kinds { IfErr result (IsFlushAllFault (length self.now.names)) }
     {
-        let mut sealing = Sealing::begin(*self.last.lock(rt));
+        let mut sealing = Sealing::begin(last);
         for peer in 0..self.peers() {
             self.flush_next(rt, pace, peer, &mut sealing)?;
             pace.turn(Who::Flusher, Place::AfterFlush);
@@ -49,6 +72,7 @@ impl<D: Disk, N: Naming> Post<D, N> {
         requires peer { peer < length self.now.names }
         requires next { peer ≡ sealing.old.flushed }
         ensures flushed { OnOk result (sealing.new.flushed ≡ sealing.old.flushed + 1) }
+        ensures number { sealing.new.number ≡ sealing.old.number }
         ensures kinds { IfErr result (IsPartFault peer IsRoundFault) }
     {
         // For the prover: there is a number after this peer's.
@@ -76,6 +100,7 @@ impl<D: Disk, N: Naming> Post<D, N> {
     // Notes on the intake tape that all lines are acknowledged up to the number that was read before the flushes.
     fn seal<R: Wait>(&self, rt: &R, sealing: Sealing) -> Result<Receipt, PostFault>
         requires { sealing.flushed ≡ length self.now.names }
+        ensures number { IfOk result (λ receipt. receipt.number ≡ sealing.number) }
         ensures kinds { IfErr result (IsFlushAllFault (length self.now.names)) }
     {
         match self.intake.lock(rt).seal(self, sealing) {

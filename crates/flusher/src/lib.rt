@@ -5,6 +5,7 @@
 //! kept by six token ledgers (`share.rt` says what those are).
 #![tactic(auto)]
 
+mod article_sync;
 mod calls;
 mod claiming;
 mod closing;
@@ -29,6 +30,7 @@ mod tally;
 mod tape_desk;
 mod threads;
 
+pub use article_sync::{ArticleSync, NoSync, Unsynced};
 pub use closing::{CloseFault, ClosedPeer, ClosedPost, Unclosed};
 pub use fault::PostFault;
 pub use flushes::Flusher;
@@ -37,7 +39,7 @@ pub use pace::{Free, Pace, Place, Who};
 pub use peer::{PostPeer, Sums};
 pub use post::Post;
 pub use reported::Reported;
-pub use sealing::Receipt;
+pub use sealing::{Receipt, SyncedLine, TakenLine};
 pub use share::{FeederShare, IntakeShare};
 pub use signals::Signals;
 pub use threads::{NoThread, Work, run_feeders, run_threads};

@@ -25,11 +25,11 @@ impl Receipt {
     }
 }
 
-// The number of a line that all peers that it names have taken, or took before; or that up to which all lines are
-// acknowledged. So the last one that is shown is a number that a receipt may have, once all is flushed that was noted
-// before it was read.
+/// The number of a line that all peers that it names have taken, or took before; or that up to which all lines are
+/// acknowledged. So the last one that is shown is a number that a receipt may have, once all is flushed that was noted
+/// before it was read. Only a post makes one.
 #[derive(Clone, Copy)]
-pub(crate) struct TakenLine {
+pub struct TakenLine {
     number: u64,
 }
 
@@ -64,6 +64,23 @@ impl TakenLine {
         ensures { result ≡ self.number }
     {
         self.number
+    }
+}
+
+/// Such a line, once the articles of all lines up to it are durable.
+#[derive(Clone, Copy)]
+pub struct SyncedLine {
+    number: u64,
+}
+
+impl SyncedLine {
+    /// Made by whoever sees to it that the articles are durable.
+    pub fn of(last: TakenLine) -> SyncedLine
+        ensures { result.number ≡ last.number }
+    {
+        SyncedLine {
+            number: last.number,
+        }
     }
 }
 
@@ -121,11 +138,11 @@ impl Settlement {
 
 impl Sealing {
     // Begins with the last line that was taken. No station has been flushed since.
-    pub(crate) fn begin(last: TakenLine) -> Sealing
+    pub(crate) fn begin(last: SyncedLine) -> Sealing
         ensures { (result.number ≡ last.number) × (result.flushed ≡ 0) }
     {
         Sealing {
-            number: last.number(),
+            number: last.number,
             flushed: 0,
         }
     }
