@@ -42,6 +42,11 @@ pub(crate) fn is_directory() -> io::Error {
     io::Error::from(ErrorKind::IsADirectory)
 }
 
+/// The directory in which innd stored an article is missing.
+pub(crate) fn not_mounted(alloc: Global, directory: &str) -> io::Error {
+    said(format!(in alloc; "{directory}: no such directory; is innd's spool mounted?"))
+}
+
 /// The path of a newsgroup is not UTF-8.
 pub(crate) fn not_text() -> io::Error {
     io::Error::other("tradspool.map has a path that is not UTF-8")

@@ -1,10 +1,10 @@
 // Files, whole.
-ghost use Rattle.std.specs.Prelude.{◌≡◌, ◌==◌, ◌++◌, ◌↔◌, IsOk, IsTrue, IfOk, IfSome, OnOk, take};
-ghost use Rattle.std.specs.Prelude.{string_bytes};
+ghost use Rattle.std.specs.Prelude.{◌≡◌, ◌==◌, ◌++◌, ◌↔◌, IsOk, IsTrue, IfOk, OnOk, string_bytes};
 ghost use Rattle.std.specs.IoError.{error_kind};
 ghost use Rattle.std.specs.List.{list_any, slice_split};
-ghost use Rattle.innd_spool.specs.Files.{is_absence, is_entry};
+ghost use Rattle.innd_spool.specs.Files.{IsRead, is_absence, is_entry};
 
+use crate::room::read_front;
 use std::alloc::AllocError;
 use std::fs::{self, File, Metadata};
 use std::io::{self, ErrorKind, Read};
@@ -12,17 +12,14 @@ use std::os::unix::fs::FileTypeExt;
 use std::rt::Files;
 use std::time::SystemTime;
 
-// One octet more than the longest text that can be sent: a file of this length is not read further.
-const READ_MAX_OCTETS: u64 = 16_777_217;
-
 /// What lies at a path.
 #[derive(Clone, Copy)]
 pub(crate) enum AtPath {
     /// Nothing: the system reports that the path does not exist, or leads through a file that is not a directory.
     Nothing,
     Directory,
-    /// A regular file, whose octets are in the buffer.
-    File,
+    /// A regular file, of which so many octets were read: they are at the front of the room.
+    File(usize),
 }
 
 /// By what a file tells that it has been changed.
@@ -32,16 +29,14 @@ pub(crate) struct FileState {
     modified: Option<SystemTime>,
 }
 
-/// Reads the file at a path into the buffer, in place of what was there: whole, or its first 16,777,217 octets.
+/// Reads the file at a path into the front of the room: whole, or its first 16,777,217 octets.
 ///
 /// # Errors
 /// The system's error; [`ErrorKind::InvalidInput`] if what lies there is neither a file nor a directory, since to open
 /// a FIFO might never end.
-pub(crate) fn read_path<F: Files>(
-    files: &F,
-    path: &str,
-    buffer: &mut Vec<u8>,
-) -> io::Result<AtPath> {
+pub(crate) fn read_path<F: Files>(files: &F, path: &str, room: &mut Vec<u8>) -> io::Result<AtPath>
+    ensures within { IfOk result (IsRead room.new.items) }
+{
     match fs::metadata(files, path) {
         Ok(there) if there.is_file() => {}
         Ok(there) if there.is_dir() => return Ok(AtPath::Directory),
@@ -49,19 +44,23 @@ pub(crate) fn read_path<F: Files>(
         Err(error) => return absent(error),
     }
     match File::open(files, path) {
-        Ok(file) => read_open(file, buffer),
+        Ok(mut file) => Ok(AtPath::File(read_front(&mut file, room)?)),
         Err(error) => absent(error),
     }
 }
 
-fn read_open<R: Read + Drop>(file: R, buffer: &mut Vec<u8>) -> io::Result<AtPath>
-    ensures file { IfOk result (λ at. at ≡ AtPath.File) }
-    ensures whole { OnOk result (IfSome (R.remaining file)
-        (λ octets. buffer.new.items ≡ take 16777217 octets)) }
-{
-    buffer.clear();
-    file.take(READ_MAX_OCTETS).read_to_end(buffer)?;
-    Ok(AtPath::File)
+/// Whether a directory lies at a path.
+///
+/// # Errors
+/// The system's error, unless it says that nothing lies there.
+pub(crate) fn is_directory_at<F: Files>(files: &F, path: &str) -> io::Result<bool> {
+    match fs::metadata(files, path) {
+        Ok(there) => Ok(there.is_dir()),
+        Err(error) => {
+            absent(error)?;
+            Ok(false)
+        }
+    }
 }
 
 // What lies at a path that could not be looked at.
@@ -130,12 +129,13 @@ pub(crate) fn set_path(path: &mut String, directory: &str, name: &str) -> Result
     Ok(())
 }
 
-/// Whether a directory has an entry. The path ends with a slash.
-pub(crate) fn has_entries<F: Files>(files: &F, path: &str) -> bool {
-    match files.open_dir(path) {
-        Ok(mut names) => has_names(&mut names).unwrap_or(false),
-        Err(_) => false,
-    }
+/// Whether the directory of innd's articles at this path has an entry: the mount point of a file system that is not
+/// mounted has none. [`InndSpool::is_there`](crate::InndSpool) looks in this way.
+///
+/// # Errors
+/// The system's error, as if nothing or no directory is there.
+pub fn has_articles<F: Files>(files: &F, directory: &str) -> io::Result<bool> {
+    has_names(&mut files.open_dir(directory)?)
 }
 
 // Whether there is a name but `.` and `..` among these, each of which a NUL ends. A read gives whole names.

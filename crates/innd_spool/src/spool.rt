@@ -5,14 +5,15 @@ ghost use Rattle.std.specs.IoError.{error_kind};
 ghost use Rattle.std.specs.Ordering.{nat_cmp};
 ghost use Rattle.article_store.specs.Finds.{IsFound};
 ghost use Rattle.innd_storage.specs.Tokens.{storage_token_of};
-ghost use Rattle.innd_spool.specs.Files.{fault_of};
+ghost use Rattle.innd_spool.specs.Files.{IsRead, fault_of};
 ghost use Rattle.innd_spool.specs.Spools.{IsKnown, IsKnownPlace, KeepsPlaces};
 ghost use Rattle.innd_spool.specs.Texts.{IsNamed};
 
+use crate::article_file::read_article;
 use crate::buffer_article::Stored;
 use crate::buffers::Buffers;
 use crate::faults::{fault_of, is_directory, named, no_place};
-use crate::files::{AtPath, has_entries, read_path, set_path};
+use crate::files::{AtPath, has_articles, read_path, set_path};
 use crate::groups::GroupMap;
 use crate::texts::{Form, as_article, judge, too_long};
 use article_store::{Articles, Found, SpoolDirectory, StoreFault, Unsendable};
@@ -30,7 +31,7 @@ use std::str;
 ///
 /// The folder is also asked for articles that innd no longer has, and for those of methods that are not read here. A
 /// file of tradspool or timehash is looked at, opened, read and closed by each fetch; a buffer of CNFS stays open. The
-/// octets of an article are read into a buffer that is reused, and copied from there once.
+/// octets of an article are read into room that is reused, and copied from there once.
 #[derive(Drop)]
 pub struct InndSpool<F: Files + Drop> {
     files: F,
@@ -122,22 +123,12 @@ impl<F: Files + Drop> InndSpool<F> {
         ensures keeps { KeepsPlaces self.old self.new }
     {
         set_path(&mut self.path, self.articles.as_str(), name)?;
-        match read_path(&self.files, self.path.as_str(), &mut self.room) {
-            Ok(AtPath::Nothing) => Ok(Found::Gone),
-            Ok(AtPath::Directory) => Err(named(self.alloc, name, is_directory())),
-            Ok(AtPath::File) => self.judge_file(Form::ByFirstLine, id),
-            Err(error) => Err(named(self.alloc, name, error)),
+        let path = self.path.as_str();
+        match read_article(self.alloc, &self.files, path, name, &mut self.room)? {
+            AtPath::Nothing => Ok(Found::Gone),
+            AtPath::Directory => Err(named(self.alloc, name, is_directory())),
+            AtPath::File(count) => self.judge(count, Form::ByFirstLine, id),
         }
-    }
-
-    // What the file that was read is for this message-id.
-    fn judge_file(&mut self, form: Form, id: &MsgId) -> io::Result<Found>
-        ensures sendable { IfOk result IsFound }
-        ensures named { IfOk result (IsNamed id.now) }
-        ensures keeps { KeepsPlaces self.old self.new }
-    {
-        let count = self.room.len();
-        self.judge(count, form, id)
     }
 
     fn in_cnfs(&mut self, token: &CnfsToken, id: &MsgId) -> io::Result<Found>
@@ -215,11 +206,13 @@ impl<F: Files + Drop> InndSpool<F> {
         Ok(found)
     }
 
-    // What the file that was read is, whatever message-id it has.
-    fn room_as_article(&mut self, form: Form) -> Result<Found, AllocError>
+    // What so many octets at the front of the room are, whatever message-id they have.
+    fn as_article(&mut self, count: usize, form: Form) -> Result<Found, AllocError>
+        requires { count ≤ length self.old.room.items }
         ensures { IfOk result IsFound }
     {
-        as_article(self.alloc, self.room.as_slice(), form, &mut self.cause)
+        let octets = &self.room.as_slice()[..count];
+        as_article(self.alloc, octets, form, &mut self.cause)
     }
 
     // What the folder has under a token, if its message-id is this one.
@@ -229,13 +222,14 @@ impl<F: Files + Drop> InndSpool<F> {
         ensures keeps { KeepsPlaces self.old self.new }
     {
         match self.read_folder(token)? {
-            AtPath::File => self.judge_file(form, id),
+            AtPath::File(count) => self.judge(count, form, id),
             _ => Ok(Found::Gone),
         }
     }
 
     // Reads the token's file in the folder into the room. A token is ASCII, so its octets are text.
     fn read_folder(&mut self, token: &Token) -> io::Result<AtPath>
+        ensures within { IfOk result (IsRead self.new.room.items) }
         ensures keeps { KeepsPlaces self.old self.new }
     {
         let Ok(name) = str::from_utf8(token.bytes()) else {
@@ -278,7 +272,7 @@ impl<F: Files + Drop> Articles for InndSpool<F> {
         ensures sendable { IfOk result IsFound }
     {
         match self.read_folder(token) {
-            Ok(AtPath::File) => Ok(self.room_as_article(folder_form(token))?),
+            Ok(AtPath::File(count)) => Ok(self.as_article(count, folder_form(token))?),
             Ok(_) => Ok(Found::Gone),
             Err(error) => self.fail(error),
         }
@@ -308,7 +302,7 @@ impl<F: Files + Drop> SpoolDirectory for InndSpool<F> {
     /// Whether the directory of innd's articles is there, and has an entry: the mount point of a file system that is
     /// not mounted has none.
     fn is_there(&self) -> bool {
-        has_entries(&self.files, self.articles.as_str())
+        has_articles(&self.files, self.articles.as_str()).unwrap_or(false)
     }
 
     fn take_reason(&mut self) -> Option<io::Error> {

@@ -1,0 +1,8 @@
+-- The reader's octets up to its end, or as many as are read.
+use Rattle.innd_spool.proofs.Pieces.{read_whole}
+use Rattle.innd_spool.proofs.room.read_front.Goals as goal
+
+pub returns-clause-whole : goal.returns-clause-whole
+returns-clause-whole g c =
+    let read = c.in_ok-count.ensures in
+    read_whole _ _ _ _ 16777217 read.gave read.within read.short read.end
