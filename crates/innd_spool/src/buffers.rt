@@ -9,6 +9,7 @@ use funnel::first_line;
 use innd_storage::{BufferName, CnfsToken, CycbuffLine, read_cycbuff_line};
 use std::alloc::{AllocError, Global};
 use std::collections::BTreeMap;
+use std::fs::OpenFile;
 use std::rt::Files;
 use std::{io, str};
 
@@ -88,6 +89,22 @@ impl<F: Files + Drop> Buffers<F> {
         let key = Vec::from_slice(self.alloc, name.bytes())?;
         self.open.insert(key, file).map_err(AllocError::from)?;
         Ok(())
+    }
+
+    /// Syncs a buffer, at the path that the configuration gives it now. It does not stay open.
+    ///
+    /// # Errors
+    /// Those of [`Buffers::open`].
+    pub fn sync(&mut self, files: &F, name: &BufferName) -> io::Result<()>
+        ensures known { OnOk result (IsSome self.old.path) }
+        ensures path { self.new.path ≡ self.old.path }
+    {
+        self.read(files)?;
+        let file = self.open_file(files, name)?;
+        match file.sync_data() {
+            Ok(()) => Ok(()),
+            Err(error) => Err(in_buffer(self.alloc, name, error)),
+        }
     }
 
     fn open_file(&self, files: &F, name: &BufferName) -> io::Result<F::File> {

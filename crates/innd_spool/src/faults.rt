@@ -37,7 +37,7 @@ pub(crate) fn in_buffer(alloc: Global, name: &BufferName, error: io::Error) -> i
     }
 }
 
-/// A directory is there in place of an article.
+/// A directory is there in place of an article or a buffer.
 pub(crate) fn is_directory() -> io::Error {
     io::Error::from(ErrorKind::IsADirectory)
 }

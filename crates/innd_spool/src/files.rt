@@ -4,6 +4,7 @@ ghost use Rattle.std.specs.IoError.{error_kind};
 ghost use Rattle.std.specs.List.{list_any, slice_split};
 ghost use Rattle.innd_spool.specs.Files.{IsRead, is_absence, is_entry};
 
+use crate::faults::is_directory;
 use crate::room::read_front;
 use std::alloc::AllocError;
 use std::fs::{self, File, Metadata};
@@ -104,10 +105,15 @@ pub(crate) fn read_whole<F: Files>(files: &F, path: &str, text: &mut Vec<u8>) ->
 /// Opens a buffer: a file or a device.
 ///
 /// # Errors
-/// The system's error; [`ErrorKind::InvalidInput`] if it is a FIFO, since to open one might never end.
+/// The system's error; [`ErrorKind::InvalidInput`] if it is a FIFO, since to open one might never end;
+/// [`ErrorKind::IsADirectory`] if it is a directory, which could be opened, and even synced.
 pub(crate) fn open_buffer<F: Files>(files: &F, path: &str) -> io::Result<F::File> {
-    if fs::metadata(files, path)?.file_type().is_fifo() {
+    let kind = fs::metadata(files, path)?.file_type();
+    if kind.is_fifo() {
         return Err(no_file());
+    }
+    if kind.is_dir() {
+        return Err(is_directory());
     }
     File::open(files, path)
 }
