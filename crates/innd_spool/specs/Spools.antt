@@ -19,7 +19,8 @@ IsKnown spool (Err fault) = ⊥
 IsKnown spool (Ok None) = Unit {0}
 IsKnown spool (Ok (Some place)) = IsKnownPlace spool place
 
--- what a store knows of places stays
+-- what a store knows of places stays, and what it has seen of one
 pub record KeepsPlaces {F P Q : Type 0} (old new : InndSpool F P Q) : Type 0 where
   pub groups : new.groups ≡ old.groups
   pub path : new.buffers.path ≡ old.buffers.path
+  pub seen : new.is_seen_gone ≡ old.is_seen_gone

@@ -1,10 +1,11 @@
 // The store.
-ghost use Rattle.std.specs.Prelude.{◌≡◌, ◌≤◌, IfOk, IsSome, Err, length};
+ghost use Rattle.std.specs.Prelude.{◌≡◌, ◌≤◌, IfOk, IsSome, IsTrue, Err, Ok, Some, length};
 ghost use Rattle.std.specs.BTreeMap.{get};
 ghost use Rattle.std.specs.IoError.{error_kind};
 ghost use Rattle.std.specs.Ordering.{nat_cmp};
 ghost use Rattle.article_store.specs.Finds.{IsFound};
 ghost use Rattle.innd_storage.specs.Tokens.{storage_token_of};
+ghost use Rattle.innd_storage.specs.declared.token.StorageToken.{StorageToken};
 ghost use Rattle.innd_spool.specs.Files.{IsRead, fault_of};
 ghost use Rattle.innd_spool.specs.Spools.{IsKnown, IsKnownPlace, KeepsPlaces};
 ghost use Rattle.innd_spool.specs.Texts.{IsNamed};
@@ -44,6 +45,8 @@ pub struct InndSpool<F: Files + Drop> {
     folder: String,
     path: String,
     room: Vec<u8>,
+    // Whether the last fetch has seen that innd no longer has the article where it was.
+    is_seen_gone: bool,
     // The error of the last fetch that failed.
     reason: Option<io::Error>,
     // The cause of the last fetch that found a text that can't be sent, if it has a name.
@@ -76,6 +79,7 @@ impl<F: Files + Drop> InndSpool<F> {
             folder: with_slash(alloc, folder)?,
             path: String::new(alloc),
             room: Vec::new(alloc),
+            is_seen_gone: false,
             reason: None,
             cause: None,
         })
@@ -284,11 +288,17 @@ impl<F: Files + Drop> SpoolDirectory for InndSpool<F> {
         ensures sendable { IfOk result IsFound }
         ensures named { IfOk result (IsNamed id.now) }
         ensures known { result ≡ Ok Found.Gone → IsKnown self.new (storage_token_of token.now) }
+        ensures seen { result ≡ Ok Found.Gone → (place : StorageToken)
+            → storage_token_of token.now ≡ Ok (Some place) → IsTrue self.new.is_seen_gone }
     {
+        self.is_seen_gone = false;
         match read_token(token) {
             Ok(None) => self.folder_answer(token, Form::Plain, id),
             Ok(Some(place)) => match self.at_innd(&place, id) {
-                Ok(Found::Gone) => self.folder_answer(token, Form::ByFirstLine, id),
+                Ok(Found::Gone) => {
+                    self.is_seen_gone = true;
+                    self.folder_answer(token, Form::ByFirstLine, id)
+                }
                 Ok(found) => Ok(found),
                 Err(error) => self.fail(error),
             },
@@ -299,10 +309,13 @@ impl<F: Files + Drop> SpoolDirectory for InndSpool<F> {
         }
     }
 
-    /// Whether the directory of innd's articles is there, and has an entry: the mount point of a file system that is
-    /// not mounted has none.
-    fn is_there(&self) -> bool {
-        has_articles(&self.files, self.articles.as_str()).unwrap_or(false)
+    /// Whether the last fetch has seen that the article is gone from where it was: from a buffer of CNFS, or from a
+    /// directory of its own. Else whether the directory of innd's articles is there, and has an entry: the mount point
+    /// of a file system that is not mounted has none, nor may a site have any that stores all articles in CNFS.
+    fn is_there(&self) -> bool
+        ensures { IsTrue self.now.is_seen_gone → IsTrue result }
+    {
+        self.is_seen_gone || has_articles(&self.files, self.articles.as_str()).unwrap_or(false)
     }
 
     fn take_reason(&mut self) -> Option<io::Error> {
