@@ -1,5 +1,6 @@
 pub mod Blame
 pub mod Dropped
+pub mod Given
 pub mod Missing
 pub mod Reach
 pub mod Slots

@@ -6,6 +6,7 @@ use Rattle.std.specs.Str.{bytes_eq}
 use Rattle.ledger_core.specs.declared.note.Cause.TheVariants.{Limit, Missing, Unsendable, Deferred as ByDeferral}
 use Rattle.conn_core.specs.declared.outcome.Outcome.{Outcome}
 use Rattle.conn_core.specs.declared.outcome.Outcome.TheVariants.{Final, Deferred, Lost, Back}
+use Rattle.feeder.specs.Given.{IsReturned}
 use Rattle.feeder.specs.declared.missing.Step.{Step}
 use Rattle.feeder.specs.declared.missing.Step.TheVariants.{Finish, PutOff, Keep}
 
@@ -30,14 +31,20 @@ is_kept token has_found drops_missing = not has_found && not drops_missing && is
 -- failed, if it came back. All else is for the station.
 abbrev pub step_of : Outcome → (postponed : Option ℕ) → (has_found drops_missing : Bool) → Step
 step_of (Lost debt Missing) postponed has_found drops_missing =
-    if is_kept debt.1.0 has_found drops_missing then Keep debt else Finish (Lost debt Missing)
-step_of (Lost debt Unsendable) postponed has_found drops_missing = Finish (Lost debt Unsendable)
-step_of (Lost debt Limit) postponed has_found drops_missing = Finish (Lost debt Limit)
-step_of (Lost debt ByDeferral) postponed has_found drops_missing = Finish (Lost debt ByDeferral)
-step_of (Back debt) (Some until) has_found drops_missing = PutOff debt until
-step_of (Back debt) None has_found drops_missing = Finish (Back debt)
-step_of (Final verdict) postponed has_found drops_missing = Finish (Final verdict)
-step_of (Deferred deferral) postponed has_found drops_missing = Finish (Deferred deferral)
+    if is_kept debt.1.0 has_found drops_missing then Keep else Finish
+step_of (Lost debt Unsendable) postponed has_found drops_missing = Finish
+step_of (Lost debt Limit) postponed has_found drops_missing = Finish
+step_of (Lost debt ByDeferral) postponed has_found drops_missing = Finish
+step_of (Back debt) (Some until) has_found drops_missing = PutOff until
+step_of (Back debt) None has_found drops_missing = Finish
+step_of (Final verdict) postponed has_found drops_missing = Finish
+step_of (Deferred deferral) postponed has_found drops_missing = Finish
+
+-- only a debt that was lost, or goes back, is put off
+abbrev pub IsForReturned : Outcome → Step → Type 0
+IsForReturned outcome Finish = Unit {0}
+IsForReturned outcome (PutOff until) = IsReturned outcome
+IsForReturned outcome Keep = IsReturned outcome
 
 -- whether a token is among these
 abbrev pub has_token : List ℕ → List (List ℕ) → Bool

@@ -7,7 +7,7 @@ use crate::logging::{
 };
 use crate::missing::{due_at, kept_until};
 use crate::peer_connection::PeerConnection;
-use crate::post_view::{PostView, is_of_tape};
+use crate::post_view::{LentPost, PostView, is_of_tape};
 use crate::service::{ServiceEnv, service};
 use crate::uptime::{Uptime, timeout};
 use crate::wake_reason::WakeReason;
@@ -127,7 +127,7 @@ impl<S: SpoolDirectory + Drop, C: Net + Drop, N: Naming> Feeder<S, C, N> {
         waits: bool,
     ) -> PostView<'a, D, N, P> {
         PostView {
-            post,
+            post: LentPost::new(post),
             pace,
             who: Who::Feeder(self.which),
             now,

@@ -2,11 +2,12 @@
 ghost use Rattle.std.specs.Prelude.{◌≡◌, ◌+◌, ◌-◌, ◌^◌, ℕ, [], Some, None, OnErr, OnOk};
 ghost use Rattle.std.specs.Prelude.{false, true, length, min, nat_le};
 ghost use Rattle.std.specs.List.{list_all};
-ghost use Rattle.feeder.specs.Missing.{has_token, is_hex_digit, is_kept, is_of_storage_api, step_of, tokens_with};
+ghost use Rattle.feeder.specs.Missing.{IsForReturned, has_token, is_hex_digit, is_kept, is_of_storage_api, step_of};
+ghost use Rattle.feeder.specs.Missing.{tokens_with};
 
 use conn_core::Outcome;
 use funnel::Token;
-use ledger_core::{Cause, Debt};
+use ledger_core::Cause;
 use std::alloc::{AllocError, Global};
 
 // How long a missing article that is kept is put off before the last phase.
@@ -16,37 +17,38 @@ const KEPT_WAIT_SECONDS: u64 = 60;
 const TOKENS_MAX: usize = 20;
 
 /// What to do about an outcome.
-#[derive(Drop)]
+#[derive(Clone, Copy)]
 pub(crate) enum Step {
     /// It goes to the station as it is.
-    Finish(Outcome),
-    /// The debt is put off until this moment, because the connection failed at it.
-    PutOff { debt: Debt, until: u64 },
-    /// The debt is put off, because its article is missing and kept.
-    Keep(Debt),
+    Finish,
+    /// Its debt is put off until this moment, because the connection failed at it.
+    PutOff(u64),
+    /// Its debt is put off, because its article is missing and kept.
+    Keep,
 }
 
 /// What to do about an outcome, if the connection failed at its debt, which is then to be put off until `postponed`.
 /// A missing article that is kept is put off, and any other that is missing goes to the station as lost, which drops
 /// it.
 pub(crate) fn step_of(
-    outcome: Outcome,
+    outcome: &Outcome,
     postponed: Option<u64>,
     has_found: bool,
     drops_missing: bool,
 ) -> Step
-    ensures { result ≡ step_of outcome postponed has_found drops_missing }
+    ensures step { result ≡ step_of outcome.now postponed has_found drops_missing }
+    ensures returned { IsForReturned outcome.now result }
 {
     match (outcome, postponed) {
         (Outcome::Lost(debt, Cause::Missing), _) => {
             if is_kept(debt.token(), has_found, drops_missing) {
-                Step::Keep(debt)
+                Step::Keep
             } else {
-                Step::Finish(Outcome::Lost(debt, Cause::Missing))
+                Step::Finish
             }
         }
-        (Outcome::Back(debt), Some(until)) => Step::PutOff { debt, until },
-        (outcome, _) => Step::Finish(outcome),
+        (Outcome::Back(_), Some(until)) => Step::PutOff(until),
+        _ => Step::Finish,
     }
 }
 

@@ -1,5 +1,7 @@
 // One connection: its protocol state, its socket, and what it holds.
-ghost use Rattle.std.specs.Prelude.{◌≡◌, ◌<◌, ◌≤◌, ◌/◌};
+ghost use Rattle.std.specs.Prelude.{◌≡◌, ◌++◌, ◌<◌, ◌≤◌, ◌/◌, IsSome, None, Some};
+ghost use Rattle.conn_core.specs.State.{untold_at};
+ghost use Rattle.feeder.specs.Given.{outcomes_in};
 
 use crate::Spool;
 use crate::blame::{Blame, ConnectionEnd};
@@ -10,6 +12,7 @@ use crate::last_stage::failed_until;
 use crate::line_head::LineHead;
 use crate::logging::log_unread;
 use crate::peer_state::PeerState;
+use crate::post_view::GivenOutcome;
 use crate::setbacks::Failure;
 use crate::spool_tally::SpoolRule;
 use crate::unread_paths::UnreadPaths;
@@ -95,7 +98,7 @@ pub(crate) struct PeerConnection {
     // How many debts it holds.
     held: u64,
     // An outcome that the station could not take yet. It goes before all others.
-    kept: Option<Outcome>,
+    kept: Option<GivenOutcome>,
     // What its peer deferred since `take_deferred`.
     deferred: Deferrals,
     // Since which second it has held nothing, once its peer has agreed to a mode.
@@ -421,23 +424,29 @@ impl PeerConnection {
 
     /// The next outcome; its debt is no longer held. After a lost debt the connection is to be serviced again, since no
     /// reply will come that shows that there is room for another debt.
-    pub fn next_outcome(&mut self) -> Option<Outcome> {
+    pub fn next_outcome(&mut self) -> Option<GivenOutcome>
+        ensures kept { IsSome self.old.kept → result ≡ self.old.kept }
+        ensures given { self.old.kept ≡ None → untold_at self.old.conn
+            ≡ outcomes_in result ++ untold_at self.new.conn }
+    {
         if let Some(kept) = self.kept.take() {
             return Some(kept);
         }
-        let outcome = self.conn.outcome()?;
-        match outcome {
-            Outcome::Deferred(ref deferral) => self.deferred.add(deferral.debt()),
+        let given = GivenOutcome::next(&mut self.conn)?;
+        match given.get() {
+            Outcome::Deferred(deferral) => self.deferred.add(deferral.debt()),
             Outcome::Lost(_, _) => self.is_dirty = true,
             Outcome::Final(_) | Outcome::Back(_) => {}
         }
         self.held = self.held.saturating_sub(1);
-        Some(outcome)
+        Some(given)
     }
 
     /// Keeps an outcome that the station did not take.
-    pub fn keep(&mut self, outcome: Outcome) {
-        self.kept = Some(outcome);
+    pub fn keep(&mut self, given: GivenOutcome)
+        ensures { self.new.kept ≡ Some given }
+    {
+        self.kept = Some(given);
     }
 
     /// Offers a debt to the peer. A debt that is refused is kept, to go back.
@@ -447,7 +456,7 @@ impl PeerConnection {
                 self.held = self.held.saturating_add(1);
                 self.idle_since = None;
             }
-            Err(back) => self.kept = Some(Outcome::Back(back.debt)),
+            Err(back) => self.kept = Some(GivenOutcome::back(back.debt)),
         }
     }
 

@@ -1,6 +1,10 @@
-// A post as one feeder uses it in one turn.
+// A post as one feeder uses it in one turn, and what becomes of debts on their way to it.
+ghost use Rattle.std.specs.Prelude.{◌≡◌, ◌++◌, IfErr};
+ghost use Rattle.conn_core.specs.State.{untold_at};
+ghost use Rattle.feeder.specs.Given.{IsReturned, outcomes_in};
+
 use crate::FeederFault;
-use conn_core::{CxnId, Outcome};
+use conn_core::{Conn, CxnId, Outcome};
 use disk_model::Disk;
 use flusher::{FeederShare, Naming, Pace, Post, PostFault, Who};
 use ledger_core::Debt;
@@ -8,10 +12,55 @@ use peer_queue::StationFault;
 use recovery::TapeFault;
 use std::sync::Wait;
 
+/// What became of a debt, as the connection that held it gave it. There is no other way to one, but for a debt that
+/// goes back because no connection has taken it. So no debt ends that its peer has not answered, and none is dropped
+/// that the connection has not given as lost.
+#[derive(Drop)]
+pub(crate) struct GivenOutcome {
+    outcome: Outcome,
+}
+
+impl GivenOutcome {
+    /// The next one of a connection.
+    pub fn next(conn: &mut Conn) -> Option<Self>
+        ensures { untold_at conn.old ≡ outcomes_in result ++ untold_at conn.new }
+    {
+        match conn.outcome() {
+            Some(outcome) => Some(GivenOutcome { outcome }),
+            None => None,
+        }
+    }
+
+    /// That of a debt which no connection has taken.
+    pub fn back(debt: Debt) -> Self
+        ensures { result.outcome ≡ Outcome.Back debt }
+    {
+        GivenOutcome {
+            outcome: Outcome::Back(debt),
+        }
+    }
+
+    pub fn get(&self) -> &Outcome
+        ensures { result.now ≡ self.now.outcome }
+    {
+        &self.outcome
+    }
+}
+
+/// A post that is lent to a feeder for one turn.
+#[derive(Clone, Copy)]
+pub(crate) struct LentPost<'a, D: Disk, N: Naming>(&'a Post<D, N>);
+
+impl<'a, D: Disk, N: Naming> LentPost<'a, D, N> {
+    pub fn new(post: &'a Post<D, N>) -> Self {
+        LentPost(post)
+    }
+}
+
 /// A post as one feeder uses it in one turn. A peer is named by its index at the post; a wrong index is refused.
 #[derive(Drop)]
 pub(crate) struct PostView<'a, D: Disk, N: Naming, P: Pace> {
-    pub post: &'a Post<D, N>,
+    pub post: LentPost<'a, D, N>,
     pub pace: &'a P,
     pub who: Who,
     /// The time, in seconds since the run began.
@@ -39,10 +88,10 @@ impl<D: Disk, N: Naming, P: Pace> PostView<'_, D, N, P> {
         connection: CxnId,
         due: u64,
     ) -> Result<Option<Debt>, FeederFault> {
-        if peer >= self.post.peers() {
+        if peer >= self.post.0.peers() {
             return Err(FeederFault::NoPeer);
         }
-        Ok(self.post.try_claim(rt, peer, connection, due)?)
+        Ok(self.post.0.try_claim(rt, peer, connection, due)?)
     }
 
     /// Takes to the station what became of a debt that this connection held.
@@ -54,42 +103,79 @@ impl<D: Disk, N: Naming, P: Pace> PostView<'_, D, N, P> {
         rt: &R,
         peer: usize,
         connection: CxnId,
-        outcome: Outcome,
+        given: GivenOutcome,
         share: &mut FeederShare<N>,
-    ) -> Result<(), (Outcome, FeederFault)> {
-        if peer >= self.post.peers() {
-            return Err((outcome, FeederFault::NoPeer));
+    ) -> Result<(), (GivenOutcome, FeederFault)>
+        ensures { IfErr result (λ refused. refused.0 ≡ given) }
+    {
+        if peer >= self.post.0.peers() {
+            return Err((given, FeederFault::NoPeer));
         }
         self.pace.turn(self.who, flusher::Place::BeforeSettle);
+        let GivenOutcome { outcome } = given;
         let ended = self
             .post
+            .0
             .finish(rt, peer, connection, outcome, self.now, share);
         self.pace.turn(self.who, flusher::Place::AfterSettle);
         match ended {
             Ok(_) => Ok(()),
-            Err((outcome, fault)) => Err((outcome, FeederFault::from(fault))),
+            Err((outcome, fault)) => Err((GivenOutcome { outcome }, FeederFault::from(fault))),
         }
     }
 
-    /// Puts off until this time a debt that this connection held.
+    /// Puts off until this time a debt that this connection held, and gave as lost or back.
     ///
     /// # Errors
-    /// The debt comes back with the post's fault, `Busy` only if `waits` is false, or `NoPeer`.
+    /// The outcome comes back with the post's fault, `Busy` only if `waits` is false, or `NoPeer`.
     pub fn put_off<R: Wait>(
+        &self,
+        rt: &R,
+        peer: usize,
+        connection: CxnId,
+        given: GivenOutcome,
+        until: u64,
+    ) -> Result<(), (GivenOutcome, FeederFault)>
+        requires { IsReturned given.outcome }
+        ensures { IfErr result (λ refused. refused.0 ≡ given) }
+    {
+        let GivenOutcome { outcome } = given;
+        match outcome {
+            Outcome::Back(debt) => match self.put_off_debt(rt, peer, connection, debt, until) {
+                Ok(()) => Ok(()),
+                Err((debt, fault)) => Err((GivenOutcome::back(debt), fault)),
+            },
+            Outcome::Lost(debt, cause) => {
+                match self.put_off_debt(rt, peer, connection, debt, until) {
+                    Ok(()) => Ok(()),
+                    Err((debt, fault)) => {
+                        let outcome = Outcome::Lost(debt, cause);
+                        Err((GivenOutcome { outcome }, fault))
+                    }
+                }
+            }
+            Outcome::Final(_) | Outcome::Deferred(_) => unreachable!(),
+        }
+    }
+
+    // Puts off a debt.
+    fn put_off_debt<R: Wait>(
         &self,
         rt: &R,
         peer: usize,
         connection: CxnId,
         debt: Debt,
         until: u64,
-    ) -> Result<(), (Debt, FeederFault)> {
-        if peer >= self.post.peers() {
+    ) -> Result<(), (Debt, FeederFault)>
+        ensures { IfErr result (λ refused. refused.0 ≡ debt) }
+    {
+        if peer >= self.post.0.peers() {
             return Err((debt, FeederFault::NoPeer));
         }
         let ended = if self.waits {
-            self.post.put_off(rt, peer, connection, debt, until)
+            self.post.0.put_off(rt, peer, connection, debt, until)
         } else {
-            self.post.try_put_off(peer, connection, debt, until)
+            self.post.0.try_put_off(peer, connection, debt, until)
         };
         match ended {
             Ok(()) => Ok(()),
@@ -99,36 +185,36 @@ impl<D: Disk, N: Naming, P: Pace> PostView<'_, D, N, P> {
 
     /// Makes all debts ready that this connection held. False if the peer's front is in use and `waits` is false.
     pub fn release<R: Wait>(&self, rt: &R, peer: usize, connection: CxnId) -> bool {
-        if peer >= self.post.peers() {
+        if peer >= self.post.0.peers() {
             return true;
         }
         if self.waits {
-            let _ = self.post.release(rt, peer, connection);
+            let _ = self.post.0.release(rt, peer, connection);
             return true;
         }
-        self.post.try_release(peer, connection).is_some()
+        self.post.0.try_release(peer, connection).is_some()
     }
 
     /// Counts a connection of the peer that can hold `room` debts, if the peer is owed more debts than the connections
     /// counted so far can hold. None if its front is in use.
     pub fn take_room(&self, peer: usize, room: u64) -> Option<bool> {
-        if peer >= self.post.peers() {
+        if peer >= self.post.0.peers() {
             return Some(false);
         }
-        self.post.try_take_room(peer, room)
+        self.post.0.try_take_room(peer, room)
     }
 
     /// Counts `room` less.
     pub fn give_room(&self, peer: usize, room: u64) {
-        if peer < self.post.peers() {
-            self.post.give_room(peer, room);
+        if peer < self.post.0.peers() {
+            self.post.0.give_room(peer, room);
         }
     }
 
     /// A connection of the peer failed, or agreed to a mode.
     pub fn set_failing(&self, peer: usize, is_failing: bool) {
-        if peer < self.post.peers() {
-            self.post.set_failing(peer, is_failing);
+        if peer < self.post.0.peers() {
+            self.post.0.set_failing(peer, is_failing);
         }
     }
 
@@ -137,25 +223,25 @@ impl<D: Disk, N: Naming, P: Pace> PostView<'_, D, N, P> {
     /// # Errors
     /// `NoPeer`.
     pub fn all_later(&self, peer: usize) -> Result<bool, FeederFault> {
-        if peer >= self.post.peers() {
+        if peer >= self.post.0.peers() {
             return Err(FeederFault::NoPeer);
         }
-        Ok(self.post.try_all_later(peer).unwrap_or(false))
+        Ok(self.post.0.try_all_later(peer).unwrap_or(false))
     }
 
     /// Whether a debt of the peer is ready or a connection holds one. Waits for the peer's front.
     pub fn has_work<R: Wait>(&self, rt: &R, peer: usize) -> bool {
-        peer < self.post.peers() && !self.post.all_later(rt, peer)
+        peer < self.post.0.peers() && !self.post.0.all_later(rt, peer)
     }
 
     /// Whether the peer's front has become half full of pending notes since the last call, of either feeder.
     pub fn take_half_full(&self, peer: usize) -> bool {
-        peer < self.post.peers() && self.post.take_half_full(peer)
+        peer < self.post.0.peers() && self.post.0.take_half_full(peer)
     }
 
     /// One more of the peer's feeders gives the peer up. True for the last of them.
     pub fn give_up(&self, peer: usize, feeders: u64) -> bool {
-        peer < self.post.peers() && self.post.give_up(peer).saturating_add(1) == feeders
+        peer < self.post.0.peers() && self.post.0.give_up(peer).saturating_add(1) == feeders
     }
 }
 

@@ -1,4 +1,6 @@
 // Servicing one connection: what came is taken in, what became of debts goes to the station, and more is sent.
+ghost use Rattle.std.specs.Prelude.{◌≡◌, IfErr};
+ghost use Rattle.feeder.specs.Given.{IsReturned};
 
 use crate::debt_texts::texts_of;
 use crate::drop_count::DroppedArticle;
@@ -7,7 +9,7 @@ use crate::logging::{log_kept, log_missing, log_postponed, log_suspect, log_unse
 use crate::missing::{Step, step_of};
 use crate::peer_connection::PeerConnection;
 use crate::peer_state::PeerState;
-use crate::post_view::{PostView, is_busy, is_full};
+use crate::post_view::{GivenOutcome, PostView, is_busy, is_full};
 use crate::spool_tally::SpoolRule;
 use crate::unread_paths::UnreadPaths;
 use crate::{FeederFault, Spool, SpoolTally, Suspects};
@@ -89,11 +91,11 @@ pub(crate) fn settle<D: Disk, N: Naming, S, R: Wait + Log, P: Pace>(
     env: &mut ServiceEnv<'_, S, N>,
 ) -> Result<(), FeederFault> {
     for _ in 0..u64::MAX {
-        let Some(outcome) = connection.next_outcome() else {
+        let Some(given) = connection.next_outcome() else {
             return Ok(());
         };
-        if let Err((outcome, fault)) = settle_one(connection, rt, view, env, outcome) {
-            connection.keep(outcome);
+        if let Err((given, fault)) = settle_one(connection, rt, view, env, given) {
+            connection.keep(given);
             return retry_later(connection, fault);
         }
     }
@@ -107,27 +109,58 @@ fn settle_one<D: Disk, N: Naming, S, R: Wait + Log, P: Pace>(
     rt: &R,
     view: &PostView<'_, D, N, P>,
     env: &mut ServiceEnv<'_, S, N>,
-    outcome: Outcome,
-) -> Result<(), (Outcome, FeederFault)> {
-    let postponed = judge(connection, rt, view.now, env, &outcome);
-    match step_of(outcome, postponed, env.tally.has_found(), env.drops_missing) {
-        Step::PutOff { debt, until } => put_off(connection, rt, view, env.peer, debt, until),
-        Step::Keep(debt) => keep(connection, rt, view, env, debt),
-        Step::Finish(Outcome::Lost(debt, cause)) => {
-            let key = debt.key();
-            lose(connection, rt, view, env, debt, cause)?;
-            forget(connection, rt, env, key);
-            Ok(())
-        }
-        Step::Finish(outcome) => {
-            let key = key_in(&outcome);
-            let is_end = matches!(outcome, Outcome::Final(_));
-            view.finish(rt, connection.peer(), connection.id(), outcome, env.share)?;
-            if is_end {
-                forget(connection, rt, env, key);
-            }
-            Ok(())
-        }
+    given: GivenOutcome,
+) -> Result<(), (GivenOutcome, FeederFault)>
+    ensures { IfErr result (λ refused. refused.0 ≡ given) }
+{
+    let postponed = judge(connection, rt, view.now, env, given.get());
+    match step_of(
+        given.get(),
+        postponed,
+        env.tally.has_found(),
+        env.drops_missing,
+    ) {
+        Step::PutOff(until) => put_off(connection, rt, view, env.peer, given, until),
+        Step::Keep => keep(connection, rt, view, env, given),
+        Step::Finish => finish(connection, rt, view, env, given),
+    }
+}
+
+// Takes an outcome to the station as it is. What ends a debt ends what is remembered of it.
+fn finish<D: Disk, N: Naming, S, R: Wait + Log, P: Pace>(
+    connection: &mut PeerConnection,
+    rt: &R,
+    view: &PostView<'_, D, N, P>,
+    env: &mut ServiceEnv<'_, S, N>,
+    given: GivenOutcome,
+) -> Result<(), (GivenOutcome, FeederFault)>
+    ensures { IfErr result (λ refused. refused.0 ≡ given) }
+{
+    let key = key_in(given.get());
+    let is_end = matches!(given.get(), Outcome::Final(_) | Outcome::Lost(_, _));
+    match cause_in(given.get()) {
+        Some(cause) => lose(connection, rt, view, env, given, cause)?,
+        None => view.finish(rt, connection.peer(), connection.id(), given, env.share)?,
+    }
+    if is_end {
+        forget(connection, rt, env, key);
+    }
+    Ok(())
+}
+
+// Why the debt of this outcome is lost, if it is.
+fn cause_in(outcome: &Outcome) -> Option<Cause> {
+    match outcome {
+        Outcome::Lost(_, cause) => Some(*cause),
+        _ => None,
+    }
+}
+
+// A copy of the words of a debt that was lost, or goes back, for a log; `None` if memory was refused.
+fn words_in(outcome: &Outcome) -> Option<(Token, MsgId)> {
+    match outcome {
+        Outcome::Lost(debt, _) | Outcome::Back(debt) => texts_of(debt).ok(),
+        _ => None,
     }
 }
 
@@ -169,17 +202,18 @@ fn lose<D: Disk, N: Naming, S, R: Wait + Log, P: Pace>(
     rt: &R,
     view: &PostView<'_, D, N, P>,
     env: &mut ServiceEnv<'_, S, N>,
-    debt: Debt,
+    given: GivenOutcome,
     cause: Cause,
-) -> Result<(), (Outcome, FeederFault)> {
-    let key = debt.key();
-    let texts = texts_of(&debt);
-    let outcome = Outcome::Lost(debt, cause);
-    view.finish(rt, connection.peer(), connection.id(), outcome, env.share)?;
+) -> Result<(), (GivenOutcome, FeederFault)>
+    ensures { IfErr result (λ refused. refused.0 ≡ given) }
+{
+    let key = key_in(given.get());
+    let words = words_in(given.get());
+    view.finish(rt, connection.peer(), connection.id(), given, env.share)?;
     let fault = connection.take_fault(key);
-    let article = match texts {
-        Ok((token, id)) => Some(DroppedArticle { token, id, fault }),
-        Err(_) => None,
+    let article = match words {
+        Some((token, id)) => Some(DroppedArticle { token, id, fault }),
+        None => None,
     };
     if let Some(article) = &article {
         let name = text_of(&env.peer.target.name);
@@ -198,25 +232,19 @@ fn keep<D: Disk, N: Naming, S, R: Wait + Log, P: Pace>(
     rt: &R,
     view: &PostView<'_, D, N, P>,
     env: &ServiceEnv<'_, S, N>,
-    debt: Debt,
-) -> Result<(), (Outcome, FeederFault)> {
-    let texts = texts_of(&debt);
-    match view.put_off(
-        rt,
-        connection.peer(),
-        connection.id(),
-        debt,
-        view.kept_until,
-    ) {
-        Ok(()) => {
-            if let Ok((token, id)) = texts {
-                log_kept(rt, text_of(&env.peer.target.name), &token, &id);
-                env.tally.add_missing(rt, &token);
-            }
-            Ok(())
-        }
-        Err((debt, fault)) => Err((Outcome::Lost(debt, Cause::Missing), fault)),
+    given: GivenOutcome,
+) -> Result<(), (GivenOutcome, FeederFault)>
+    requires { IsReturned given.outcome }
+    ensures { IfErr result (λ refused. refused.0 ≡ given) }
+{
+    let words = words_in(given.get());
+    let (peer, id) = (connection.peer(), connection.id());
+    view.put_off(rt, peer, id, given, view.kept_until)?;
+    if let Some((token, id)) = words {
+        log_kept(rt, text_of(&env.peer.target.name), &token, &id);
+        env.tally.add_missing(rt, &token);
     }
+    Ok(())
 }
 
 // Puts off the debt at which the connection failed, and logs that.
@@ -225,19 +253,18 @@ fn put_off<D: Disk, N: Naming, R: Wait + Log, P: Pace>(
     rt: &R,
     view: &PostView<'_, D, N, P>,
     peer: &PeerState,
-    debt: Debt,
+    given: GivenOutcome,
     until: u64,
-) -> Result<(), (Outcome, FeederFault)> {
-    let texts = texts_of(&debt);
-    match view.put_off(rt, connection.peer(), connection.id(), debt, until) {
-        Ok(()) => {
-            if let Ok((token, id)) = texts {
-                log_put_off(connection, rt, peer, &token, &id);
-            }
-            Ok(())
-        }
-        Err((debt, fault)) => Err((Outcome::Back(debt), fault)),
+) -> Result<(), (GivenOutcome, FeederFault)>
+    requires { IsReturned given.outcome }
+    ensures { IfErr result (λ refused. refused.0 ≡ given) }
+{
+    let words = words_in(given.get());
+    view.put_off(rt, connection.peer(), connection.id(), given, until)?;
+    if let Some((token, id)) = words {
+        log_put_off(connection, rt, peer, &token, &id);
     }
+    Ok(())
 }
 
 // The article with this token and message-id was put off after the connection closed.
@@ -391,10 +418,11 @@ fn put_off_claimed<D: Disk, N: Naming, R: Wait, P: Pace>(
     debt: Debt,
     until: u64,
 ) -> Result<(), FeederFault> {
-    match view.put_off(rt, connection.peer(), connection.id(), debt, until) {
+    let given = GivenOutcome::back(debt);
+    match view.put_off(rt, connection.peer(), connection.id(), given, until) {
         Ok(()) => Ok(()),
-        Err((debt, fault)) => {
-            connection.keep(Outcome::Back(debt));
+        Err((given, fault)) => {
+            connection.keep(given);
             retry_later(connection, fault)
         }
     }
