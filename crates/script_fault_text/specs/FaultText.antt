@@ -1,5 +1,5 @@
 -- The lines that explain why a line of a script is refused (docs/MANUAL.md).
-use Rattle.std.specs.Prelude.{◌≡◌, ◌⊎◌, ◌==◌, ◌+◌, ◌-◌, ◌||◌, ℕ, List, [], ◌∷◌, ◌++◌, Option, None, Some}
+use Rattle.std.specs.Prelude.{◌≡◌, ◌≢◌, ◌⊎◌, ◌==◌, ◌+◌, ◌-◌, ◌||◌, ℕ, List, [], ◌∷◌, ◌++◌, Option, None, Some}
 use Rattle.std.specs.Prelude.{Result, Ok, Err, codes, decimal, drop, get_or, length, map, min, nat_le, nat_lt}
 use Rattle.std.specs.Prelude.{if◌then◌else◌, replicate, take}
 use Rattle.std.specs.List.{position, slice_split}
@@ -149,12 +149,24 @@ AreOnSettings source number line name items lines =
     ⊎ ((outcome : Outcome) × Means (block_text number name items) (Ok outcome)
     × (lines ≡ second_text source number line (codes "the settings of one peer of this name")))
 
--- The lines on a peer's line: its form, or if it has that, its settings.
+-- The lines on what follows `peer ` on a line: they are on the settings of the peer that it names.
+abbrev pub AreOnDeclaration : (source : List ℕ) → (number : ℕ) → (line declaration lines : List ℕ) → Type 0
+AreOnDeclaration source number line declaration lines =
+    (name items : List ℕ) × IsNamedWith declaration name items × IsSolid name
+    × AreOnSettings source number line name items lines
+
+-- The lines on a line that has its form: those on what follows `peer `, or none if it does not begin so.
+pub record AreOnFormed (source : List ℕ) (number : ℕ) (line lines : List ℕ) : Type 0 where
+  pub formed : form_text source number line ≡ []
+  pub declared : (declaration : List ℕ) → line ≡ codes "peer " ++ declaration
+      → AreOnDeclaration source number line declaration lines
+  pub others : ((declaration : List ℕ) → line ≡ codes "peer " ++ declaration → ⊥) → lines ≡ []
+
+-- The lines on a peer's line: those on its form, or if it has that, on its settings.
 abbrev pub AreOnPeer : (source : List ℕ) → (number : ℕ) → (line lines : List ℕ) → Type 0
 AreOnPeer source number line lines =
-    (lines ≡ form_text source number line)
-    ⊎ ((declaration name items : List ℕ) × (line ≡ codes "peer " ++ declaration)
-    × IsNamedWith declaration name items × IsSolid name × AreOnSettings source number line name items lines)
+    ((form_text source number line ≢ []) × (lines ≡ form_text source number line))
+    ⊎ AreOnFormed source number line lines
 
 -- The lines that explain why this line of a script is refused.
 abbrev pub AreOn : (source : List ℕ) → (number : ℕ) → (line : List ℕ) → BrokenRule → (lines : List ℕ) → Type 0

@@ -1,6 +1,7 @@
 // Why a line of a script is refused.
 ghost use Rattle.std.specs.Prelude.{◌≡◌, IfOk, IfSome, OnOk, ◌++◌};
-ghost use Rattle.script_fault_text.specs.FaultText.{AreOn, AreOnPeer, first_text, first_word, form_text, line_at};
+ghost use Rattle.script_fault_text.specs.FaultText.{AreOn, AreOnDeclaration, AreOnPeer, first_text, first_word};
+ghost use Rattle.script_fault_text.specs.FaultText.{form_text, line_at};
 
 use crate::line::{first_word, line_at, space_from};
 use crate::misfit::{Place, add_misfit, add_parts};
@@ -92,11 +93,25 @@ fn on_peer(alloc: Global, place: Place<'_>, line: &[u8]) -> Result<Vec<u8>, Allo
         (λ lines. AreOnPeer place.entry.source.now place.entry.number line.now lines.items) }
 {
     let lines = on_form(alloc, place, line)?;
-    match line.strip_prefix(b"peer ") {
-        Some(declaration) if lines.is_empty() => {
-            let (name, items) = split_peer(declaration);
-            settings_lines(alloc, place, line, name, items)
-        }
-        _ => Ok(lines),
+    if !lines.is_empty() {
+        return Ok(lines);
     }
+    match line.strip_prefix(b"peer ") {
+        Some(declaration) => on_declaration(alloc, place, line, declaration),
+        None => Ok(lines),
+    }
+}
+
+// The lines on the settings of the peer that is declared behind `peer ` on a line.
+fn on_declaration(
+    alloc: Global,
+    place: Place<'_>,
+    line: &[u8],
+    declaration: &[u8],
+) -> Result<Vec<u8>, AllocError>
+    ensures { IfOk result (λ lines. AreOnDeclaration place.entry.source.now place.entry.number
+        line.now declaration.now lines.items) }
+{
+    let (name, items) = split_peer(declaration);
+    settings_lines(alloc, place, line, name, items)
 }
