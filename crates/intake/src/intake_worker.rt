@@ -5,6 +5,7 @@ ghost use Rattle.intake.specs.Ordered.{lasts_of};
 use crate::countdown::Countdown;
 use crate::keeping::LineKeeper;
 use crate::look_pace::LookPace;
+use crate::named_buffers::NamedBuffers;
 use crate::nowhere::Nowhere;
 use crate::ordered::OrderedBatches;
 use crate::progress::Progress;
@@ -80,6 +81,8 @@ pub struct IntakeWorker<'a, F, W, N: Naming> {
     pub directory: &'a str,
     /// Room that is kept back, if the run follows its funnel.
     pub room: Option<KeptRoom<'a, F>>,
+    /// Where the buffers are named that are synced before lines are acknowledged, if they are.
+    pub buffers: Option<&'a NamedBuffers>,
     /// All lines up to this number are acknowledged: by the intake's tape as it was opened, or by a receipt.
     pub acknowledged: u64,
     /// What of that is not printed yet.
@@ -159,6 +162,7 @@ impl<F: AllocGlobal + Files<File = File>, W: Write, N: Naming> IntakeWorker<'_, 
             });
         };
         for line in kept.lines() {
+            self.name_buffer(rt, line)?;
             let Some(number) = self.take_line(rt, post, signals, line)? else {
                 return Ok(Batch {
                     is_last: true,
@@ -318,6 +322,15 @@ impl<F: AllocGlobal + Files<File = File>, W: Write, N: Naming> IntakeWorker<'_, 
                 RunError::funnel(rt, self.alloc, funnel.path(), fault).add_to(&mut self.end);
                 Next::End
             }
+        }
+    }
+
+    // Names the buffer in which the line's article lies, if it is to be synced. That comes before the line is taken:
+    // whoever has seen its number finds the buffer named.
+    fn name_buffer<R: Wait>(&self, rt: &R, line: &ReadLine) -> Result<(), AllocError> {
+        match (self.buffers, line.reading()) {
+            (Some(buffers), Reading::Good { token, .. }) => buffers.add(rt, token),
+            _ => Ok(()),
         }
     }
 
