@@ -9,6 +9,7 @@
 
 mod run;
 mod spool;
+mod spool_sync;
 mod start_and_end;
 mod suspects;
 mod system;

@@ -5,6 +5,7 @@ ghost use Rattle.flusher.specs.Post.{IsFor, names_of};
 ghost use Rattle.flusher.specs.Sealed.{IsFlushed};
 
 use crate::spool::{SpoolPaths, SpoolPlaces, Spools};
+use crate::spool_sync::{SpoolSync, SyncedBuffers};
 use crate::start_and_end::{log_end, log_no_login, log_start};
 use crate::suspects::{keep_all, suspects_of};
 use crate::targets::{by_name, hosts_of, targets_of};
@@ -20,10 +21,10 @@ use flusher::{
 use funnel::PeerName;
 use funnel_files::Funnel;
 use intake::{
-    Countdown, CountedWorker, IntakeWorker, KeptRoom, LeftOut, LineKeeper, Nowhere, OtherFiles,
-    Progress, RunError, StatusFile, StopFile, Tapes, add_all, close, flush_stations, is_followed,
-    keeper_for, log_reason, log_tape_fault, log_unknown_lines, most_connections, open_funnel,
-    open_tapes, refuse_root, remove_room, remove_stop, take_backlogs,
+    Countdown, CountedWorker, IntakeWorker, KeptRoom, LeftOut, LineKeeper, NamedBuffers, Nowhere,
+    OtherFiles, Progress, RunError, StatusFile, StopFile, Tapes, add_all, close, flush_stations,
+    is_followed, keeper_for, log_reason, log_tape_fault, log_unknown_lines, most_connections,
+    open_funnel, open_tapes, refuse_root, remove_room, remove_stop, take_backlogs,
 };
 use log::Log;
 use mio::Waker;
@@ -113,6 +114,7 @@ struct Taking<'a, F> {
 struct Prepared<'a, S, F> {
     feeding: Feeding<S>,
     taking: Taking<'a, F>,
+    synced: SyncedBuffers,
 }
 
 // The two feeders, the resolver that they share, and what wakes each.
@@ -233,6 +235,27 @@ fn feed_open<
         intake,
     } = opened;
     let mut peers = peers;
+    let taking = take_in(
+        env, backlogs, places, path, source, &confs, &mut peers, &intake, left_out,
+    )?;
+    let prepared = prepare(env, backlogs, places, &confs, taking, drops_missing)?;
+    let peers = flush_stations(env.rt, env.files.alloc(), peers)?;
+    let blanks = Blanks::new(env.files.alloc(), peers.len())?;
+    work::<Brand, R, F, S, H, C, L, W>(env, backlogs, prepared, peers, intake, blanks, out, end)
+}
+
+// Takes in the peers' backlog files, and then opens the funnel: what the intake is made of.
+fn take_in<'a, R: Clock + Log, F: AllocGlobal + Files<File = File>, H, C: Net, L>(
+    env: &RunEnv<'a, R, F, H, C, L>,
+    backlogs: Backlogs<'a>,
+    places: &Places,
+    path: &str,
+    source: Source<'_>,
+    confs: &[PeerConf],
+    peers: &mut [PostPeer<FileDisk<TapeFile>>],
+    intake: &Tape<FileDisk<TapeFile>>,
+    left_out: &[LeftOut],
+) -> Result<Taking<'a, F>, RunError> {
     let limit = places.unknown_limit;
     let keeper = keeper_for(
         env.rt,
@@ -255,11 +278,12 @@ fn feed_open<
         backlogs.tapes,
         backlogs.path,
         others,
-        &mut peers,
+        peers,
     )?;
     let funnel = open_funnel(env.rt, env.files, &env.net, source, intake.mark())?;
-    let is_lasting = stop.is_some();
-    if is_lasting && let Some(funnel) = &funnel {
+    if stop.is_some()
+        && let Some(funnel) = &funnel
+    {
         log_start(
             env.rt,
             env.version,
@@ -269,25 +293,46 @@ fn feed_open<
         );
         places.spool.log_missing(env.rt, env.files);
     }
-    let taking = taking_of(env, backlogs, places, &confs, funnel, stop, keeper)?;
-    let start = taking.start;
-    let suspects = suspects_of(env.rt, env.files, backlogs.path, &confs)?;
+    taking_of(env, backlogs, places, confs, funnel, stop, keeper)
+}
+
+// What is prepared besides the intake. What earlier runs have left there is logged.
+fn prepare<
+    'a,
+    R: AllocGlobal + Clock + Log,
+    F: AllocGlobal + Files<File = File>,
+    S: Drop,
+    H: Spools<Store = S>,
+    C,
+    L,
+>(
+    env: &RunEnv<'a, R, F, H, C, L>,
+    backlogs: Backlogs<'a>,
+    places: &Places,
+    confs: &[PeerConf],
+    taking: Taking<'a, F>,
+    drops_missing: bool,
+) -> Result<Prepared<'a, S, F>, RunError> {
+    let suspects = suspects_of(env.rt, env.files, backlogs.path, confs)?;
+    let (is_lasting, start) = (taking.stop.is_some(), taking.start);
     let feeding = feeding_of(
         env,
         places,
-        &confs,
+        confs,
         suspects,
         is_lasting,
         drops_missing,
         start,
     )?;
-    let prepared = Prepared { feeding, taking };
-    let others = prepared.taking.keeper.left_out();
-    log_strangers(env.rt, env.files, &places.directory, &confs, others);
+    let synced = synced_of(env, &places.spool)?;
+    let others = taking.keeper.left_out();
+    log_strangers(env.rt, env.files, &places.directory, confs, others);
     log_unknown_lines(env.rt, env.files, backlogs.path);
-    let peers = flush_stations(env.rt, env.files.alloc(), peers)?;
-    let blanks = Blanks::new(env.files.alloc(), peers.len())?;
-    work::<Brand, R, F, S, H, C, L, W>(env, backlogs, prepared, peers, intake, blanks, out, end)
+    Ok(Prepared {
+        feeding,
+        taking,
+        synced,
+    })
 }
 
 // Logs why the directory of the articles cannot be read, if that is how a run ended, and the directory is not there.
@@ -349,6 +394,24 @@ fn feeding_of<R: Clock + Log, F: AllocGlobal, S: Drop, H: Spools<Store = S>, C, 
         drops_missing: drops_missing || places.spool.is_of_innd(),
         start,
     })
+}
+
+// The buffers that are synced before lines are acknowledged.
+fn synced_of<R, F: AllocGlobal, S: Drop, H: Spools<Store = S>, C, L>(
+    env: &RunEnv<'_, R, F, H, C, L>,
+    places: &SpoolPlaces,
+) -> Result<SyncedBuffers, AllocError> {
+    let alloc = env.files.alloc();
+    match places.synced() {
+        Some(path) => Ok(SyncedBuffers {
+            buffers: Some(env.spools.sync(alloc, text_of(path))?),
+            path: Vec::from_slice(alloc, path)?,
+        }),
+        None => Ok(SyncedBuffers {
+            buffers: None,
+            path: Vec::new(alloc),
+        }),
+    }
 }
 
 // What the intake is made of. If the run follows its funnel, room is kept back.
@@ -442,17 +505,22 @@ fn work<
     let (post, share, one, other, third) = Post::<FileDisk<TapeFile>, N>::new(
         alloc, stations, intake, blanks,
     )?;
-    let Prepared { feeding, taking } = prepared;
+    let Prepared {
+        feeding,
+        taking,
+        synced,
+    } = prepared;
     let tally = Arc::try_clone(&feeding.tally)?;
     let suspects = Arc::try_clone(&feeding.suspects)?;
     let feeders = feeders_of(env, feeding, (one, other))?;
     let taker = (share, acknowledged);
+    let named = NamedBuffers::new(alloc);
     run_workers(
         env,
         backlogs,
         &post,
         feeders,
-        Flusher::new(third),
+        Flusher::with_articles(third, SpoolSync::new(synced, &named)),
         taking,
         taker,
         &tally,
@@ -479,7 +547,7 @@ fn run_workers<
     backlogs: Backlogs<'_>,
     post: &Post<FileDisk<TapeFile>, N>,
     feeders: Feeders<S, C, N>,
-    flusher: Flusher<N>,
+    flusher: Flusher<N, SpoolSync<'_>>,
     taking: Taking<'_, F>,
     (share, acknowledged): (IntakeShare<N>, u64),
     tally: &SpoolTally,
@@ -519,6 +587,7 @@ fn run_workers<
         tapes: backlogs.tapes,
         directory: backlogs.path,
         room,
+        buffers: flusher.articles.named(),
         acknowledged,
         unprinted: None,
         printed: None,
@@ -551,6 +620,7 @@ fn run_workers<
     match ended {
         Ok((first, second, flusher)) => {
             let (first, second) = (first.worker, second.worker);
+            flusher.articles.report(env.rt, alloc, end);
             let faults = (flusher.fault, first.fault, second.fault);
             add_faults(alloc, &names, faults, intake_end, end);
             add_unread(first.unread, second.unread, end);

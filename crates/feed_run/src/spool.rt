@@ -5,7 +5,7 @@ ghost use Rattle.article_store.specs.Finds.{IsFound};
 use article_store::{Articles, Folder, Found, SpoolDirectory, StoreFault, Unsendable};
 use feed_conf::Conf;
 use funnel::{MsgId, Token};
-use innd_spool::InndSpool;
+use innd_spool::{BufferSync, InndSpool, has_articles};
 use log::{Log, warn};
 use std::alloc::{AllocError, Global};
 use std::fs::{self, File};
@@ -21,8 +21,12 @@ pub(crate) struct SpoolPlaces {
     // innd's spool, and its cycbuff.conf.
     innd: Option<Vec<u8>>,
     cycbuffs: Option<Vec<u8>>,
-    // The directory that has to be there: without it, that an article is missing says nothing.
-    articles: Vec<u8>,
+    // Whether the buffers of that list are synced before lines are acknowledged.
+    is_synced: bool,
+    // The directory that has to be there, of the copies or in innd's spool, and whether it has to have an entry: the
+    // mount point of a file system that is not mounted has none.
+    wanted: Vec<u8>,
+    wants_entry: bool,
 }
 
 impl SpoolPlaces {
@@ -32,10 +36,12 @@ impl SpoolPlaces {
     /// Memory was refused.
     pub fn of(alloc: Global, conf: &Conf) -> Result<Self, AllocError> {
         let copies = conf.news_spool();
-        let articles = match conf.innd_spool() {
+        let wanted = match conf.innd_spool() {
+            // (a site that has all articles in buffers has none in `articles`)
+            Some(spool) if conf.innd_cycbuffs().is_some() => Vec::from_slice(alloc, spool)?,
             Some(spool) => {
                 let mut path = Vec::from_slice(alloc, spool)?;
-                path.extend_from_slice(b"/articles")?;
+                path.extend_from_slice(b"/articles/")?;
                 path
             }
             None => Vec::from_slice(alloc, copies)?,
@@ -44,7 +50,9 @@ impl SpoolPlaces {
             copies: Vec::from_slice(alloc, copies)?,
             innd: copy_of(alloc, conf.innd_spool())?,
             cycbuffs: copy_of(alloc, conf.innd_cycbuffs())?,
-            articles,
+            is_synced: conf.sync_spool(),
+            wanted,
+            wants_entry: conf.innd_spool().is_some() && conf.innd_cycbuffs().is_none(),
         })
     }
 
@@ -61,16 +69,28 @@ impl SpoolPlaces {
         self.innd.is_some()
     }
 
+    /// The list of the buffers that are synced before lines are acknowledged, if they are: without innd's spool no
+    /// article is read from them.
+    pub fn synced(&self) -> Option<&[u8]> {
+        match (&self.innd, &self.cycbuffs) {
+            (Some(_), Some(cycbuffs)) if self.is_synced => Some(cycbuffs),
+            _ => None,
+        }
+    }
+
     /// Looks whether the directory of the articles is there.
     ///
     /// # Errors
-    /// Why it is not: the system's error; `NotADirectory` if something else is there.
+    /// Why it is not: the system's error; `NotADirectory` if something else is there; that it is empty, if innd's is.
     pub fn look<F: Files<File = File>>(&self, files: &F) -> io::Result<()> {
-        if fs::metadata(files, text_of(&self.articles))?.is_dir() {
-            Ok(())
-        } else {
-            Err(ErrorKind::NotADirectory.into())
+        let path = text_of(&self.wanted);
+        if !fs::metadata(files, path)?.is_dir() {
+            return Err(ErrorKind::NotADirectory.into());
         }
+        if self.wants_entry && !has_articles(files, path)? {
+            return Err(io::Error::other("it is empty"));
+        }
+        Ok(())
     }
 
     /// Logs that the directory of the articles is not there, if so, and what that means. It is looked for again with
@@ -85,7 +105,7 @@ impl SpoolPlaces {
             warn!(
                 rt;
                 "{} {}: {}; articles wait until it is there, and none is dropped: make or mount it",
-                key, text_of(&self.articles), error
+                key, text_of(&self.wanted), error
             );
         }
     }
@@ -147,6 +167,12 @@ pub(crate) trait Spools {
     /// # Errors
     /// Memory was refused.
     fn open(&self, alloc: Global, paths: SpoolPaths<'_>) -> Result<Self::Store, AllocError>;
+
+    /// What syncs the buffers of the list at this path.
+    ///
+    /// # Errors
+    /// Memory was refused.
+    fn sync(&self, alloc: Global, cycbuffs: &str) -> Result<BufferSync<HostRuntime>, AllocError>;
 }
 
 /// Opens stores of the system's files.
@@ -169,6 +195,10 @@ impl Spools for HostSpools {
                 paths.copies,
             )?)),
         }
+    }
+
+    fn sync(&self, alloc: Global, cycbuffs: &str) -> Result<BufferSync<HostRuntime>, AllocError> {
+        BufferSync::new(self.host, alloc, cycbuffs)
     }
 }
 
