@@ -1,5 +1,6 @@
-"""follow.py PROGRAM LINES GAP_MS: see follow.sh."""
+"""follow.py PROGRAM LINES GAP_MS SLOW_DISK: see follow.sh."""
 import os
+import re
 import socket
 import subprocess
 import sys
@@ -59,6 +60,18 @@ def look(path, seen):
             time.sleep(LOOK_SECONDS)
 
 
+def watch(program, sent, behind, ended):
+    """Asks four times a second up to which line lines are acknowledged, and notes how old the next one is."""
+    while not ended.is_set():
+        told = subprocess.run([program, "-v", "-c", "innfeed.conf", "--owed"], stdout=subprocess.DEVNULL,
+                              stderr=subprocess.PIPE, text=True, check=False).stderr
+        found, moments = re.search(r"acknowledged up to line (\d+)", told), list(sent.values())
+        if found:
+            number = int(found[1])
+            behind.append(time.monotonic() - moments[number] if number < len(moments) else 0)
+        ended.wait(0.25)
+
+
 def processor(process):
     fields = open(f"/proc/{process.pid}/stat").read().rsplit(")", 1)[1].split()
     return (int(fields[11]) + int(fields[12])) / os.sysconf("SC_CLK_TCK")
@@ -69,7 +82,8 @@ def late(sent, seen):
 
 
 def main():
-    program, count, gap = os.path.realpath(sys.argv[1]), int(sys.argv[2]), int(sys.argv[3]) / 1000
+    program, count, gap = os.path.realpath(sys.argv[1]), int(sys.argv[2]), float(sys.argv[3]) / 1000
+    slow = {"LD_PRELOAD": sys.argv[4]} if sys.argv[4] else {}
     with tempfile.TemporaryDirectory() as folder:
         os.chdir(folder)
         for name in ("articles", "backlog", "funnel"):
@@ -77,21 +91,25 @@ def main():
         for n in range(count):
             with open(f"articles/{n}", "w") as file:
                 file.write(f"Message-ID: <{n}@bench>\n\nText.\n")
-        sink, plain, sent = Sink(), {}, {}
+        sink, plain, sent, behind, ended = Sink(), {}, {}, [], threading.Event()
         with open("innfeed.conf", "w") as file:
             file.write(CONF.format(port=sink.server.getsockname()[1]))
         segment = f"funnel/{1:020}"
         with open(segment, "w") as writer:
             threading.Thread(target=look, args=(segment, plain), daemon=True).start()
             run = subprocess.Popen([program, "-c", "innfeed.conf", "--follow", "funnel"],
-                                   stdout=subprocess.DEVNULL)
+                                   stdout=subprocess.DEVNULL, env={**os.environ, **slow})
             time.sleep(2)
+            threading.Thread(target=watch, args=(program, sent, behind, ended), daemon=True).start()
+            next_one = time.monotonic()
             for n in range(count):
                 sent[b"<%d@bench>" % n] = time.monotonic()
                 writer.write(f"{n} <{n}@bench> p\n")
                 writer.flush()
-                time.sleep(gap)
+                next_one += gap
+                time.sleep(max(0, next_one - time.monotonic()))
             time.sleep(2)
+            ended.set()
             before = processor(run)
             time.sleep(SILENT_SECONDS)
             silent = (processor(run) - before) / SILENT_SECONDS
@@ -101,6 +119,7 @@ def main():
     median, other = ours[count // 2], others[count // 2]
     print(f"a line to its offer: median {median:.1f} ms, 99 of 100 within {ours[count * 99 // 100]:.1f}; "
           f"a reader that looks five times a second: {other:.1f}: {median / other:.2f} times; "
+          f"acknowledged {sorted(behind)[len(behind) // 2]:.2f} s later, {max(behind):.2f} at most; "
           f"silent: {silent:.1%} of a processor", end="")
 
 
