@@ -97,7 +97,8 @@ impl<D: Disk, N: Naming> Post<D, N> {
         }
     }
 
-    // Reads ahead from a peer's tape the debts that its front can hand out next. What can't be read stays there.
+    // Reads ahead from a peer's tape the debts that its front can hand out next. What can't be read stays there; what
+    // was read is given to no other peer's front, where its keys are those of other debts.
     fn read_ahead<R: Wait>(&self, rt: &R, peer: usize, tape: &mut TapeDesk<D, N>)
         requires { peer < length self.now.names }
         ensures unchanged { tape.old.place ≢ peer → tape.new ≡ tape.old }
@@ -113,8 +114,12 @@ impl<D: Disk, N: Naming> Post<D, N> {
         if keys.is_empty() {
             return;
         }
-        if let Ok(debts) = tape.debts(&keys) {
-            let _ = self.front(rt, peer).keep_ahead(debts);
+        let Ok(read) = tape.debts(&keys) else {
+            return;
+        };
+        let mut desk = self.front(rt, peer);
+        if desk.seat.place == peer {
+            let _ = desk.keep_ahead(read);
         }
     }
 

@@ -12,7 +12,7 @@ use crate::read_ahead::ReadAhead;
 use crate::sealing::Settlement;
 use crate::share::FeederShare;
 use crate::tally::{Books, Tally};
-use crate::tape_desk::Flush;
+use crate::tape_desk::{Flush, ReadDebts};
 use crate::{Naming, Reported};
 use conn_core::{CxnId, Outcome};
 use crossbeam_queue::RuledArrayQueue;
@@ -248,20 +248,21 @@ impl<N: Naming> FrontDesk<N> {
         Ok(keys)
     }
 
-    /// Keeps debts that were read ahead, as far as there is room for them.
+    /// Keeps debts that were read ahead from its own peer's tape, as far as there is room for them.
     ///
     /// # Errors
     /// `NoMemory` if memory was refused; nothing changes.
-    pub fn keep_ahead(&mut self, debts: Vec<Debt>) -> Result<(), AllocError>
+    pub fn keep_ahead(&mut self, read: ReadDebts) -> Result<(), AllocError>
+        requires place { read.place ≡ self.old.seat.place }
         ensures ok { OnOk result
-            (kept_in self.new.ahead ≡ kept_with (kept_in self.old.ahead) debts.items) }
+            (kept_in self.new.ahead ≡ kept_with (kept_in self.old.ahead) read.debts.items) }
         ensures unchanged { OnErr result (kept_in self.new.ahead ≡ kept_in self.old.ahead) }
         ensures end { end_in self.new.ahead ≡ end_in self.old.ahead }
         ensures seat { self.new.seat ≡ self.old.seat }
         ensures keeps_report { KeepsReport self.old self.new }
     {
         let FrontDesk { ahead, .. } = self;
-        ahead.keep(debts)
+        ahead.keep(read.into_debts())
     }
 
     /// Gives back a key that this connection claimed, because its texts could not be had: it is ready. A broken front

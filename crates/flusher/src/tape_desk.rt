@@ -47,6 +47,23 @@ impl Flush {
     }
 }
 
+/// Debts that were read back from a tape, and that tape's place: at another peer the same keys are other debts. Only a
+/// tape's desk makes one.
+#[derive(Drop)]
+pub(crate) struct ReadDebts {
+    place: usize,
+    debts: Vec<Debt>,
+}
+
+impl ReadDebts {
+    /// The debts, in the order in which they were asked for.
+    pub fn into_debts(self) -> Vec<Debt>
+        ensures { result ≡ self.debts }
+    {
+        self.debts
+    }
+}
+
 impl<D: Disk, N: Naming> TapeDesk<D, N> {
     ghost use Rattle.std.specs.Prelude.{◌≢◌, ◌↔◌, ℕ, None, Ok};
     ghost use Rattle.std.specs.Prelude.{IfErr, IfOk, IfSome, IsErrOf, IsOk, IsSome, OnOk, map};
@@ -229,10 +246,11 @@ impl<D: Disk, N: Naming> TapeDesk<D, N> {
 
     /// The debts of these keys, in their order, read back; a key that the tape does not owe is passed over
     /// ([`Side::debts`]).
-    pub fn debts(&mut self, keys: &[Key]) -> Result<Vec<Debt>, TapeFault>
+    pub fn debts(&mut self, keys: &[Key]) -> Result<ReadDebts, TapeFault>
+        ensures place { IfOk result (λ read. read.place ≡ self.old.place) }
         ensures debts { (h : History) → StandsFor (tape_of self.old.side) h → IfOk result
-            (λ debts. debts.items ≡ debts_at (ledger_of (tape_of self.old.side)) keys.now) }
-        ensures owed { IfOk result (λ debts. map lengths_of debts.items
+            (λ read. read.debts.items ≡ debts_at (ledger_of (tape_of self.old.side)) keys.now) }
+        ensures owed { IfOk result (λ read. map lengths_of read.debts.items
             ≡ map lengths_of (debts_at (ledger_of (tape_of self.old.side)) keys.now)) }
         ensures broken { IsErrOf result TapeFault.Broken ↔ IsBroken (tape_of self.old.side) }
         ensures refuses { IsErrOf result TapeFault.Disk
@@ -242,7 +260,9 @@ impl<D: Disk, N: Naming> TapeDesk<D, N> {
         ensures keeps { IsSameEnd self.old.side self.new.side }
         ensures kinds { IfErr result IsDebtFault }
     {
+        let place = self.place;
         let TapeDesk { side, .. } = self;
-        side.debts(keys)
+        let debts = side.debts(keys)?;
+        Ok(ReadDebts { place, debts })
     }
 }
