@@ -1,16 +1,15 @@
 // The peers of a post, before and after.
 ghost use Rattle.std.specs.Prelude.{◌≡◌, ◌↔◌, ◌+◌, ◌≤◌, ℕ, IfOk};
-ghost use Rattle.std.specs.Prelude.{IfErr, IsErrOf};
+ghost use Rattle.std.specs.Prelude.{IfErr, IsOk};
 ghost use Rattle.std.specs.Prelude.{MatchResult, Ok, OnOk};
+ghost use Rattle.flusher.specs.Flushes.{AcknowledgesOr, RefusesOrRotates};
 ghost use Rattle.flusher.specs.Kept.{IsKept};
-ghost use Rattle.flusher.specs.Room.{HasNoRoom};
 ghost use Rattle.flusher.specs.Sealed.{IsFlushed};
 ghost use Rattle.ledger_core.specs.declared.note.Note.{Note};
-ghost use Rattle.peer_queue.specs.Calls.{IsFresh, RefusesClose, RefusesOwe};
-ghost use Rattle.peer_queue.specs.Faults.{IsFlushFault};
+ghost use Rattle.peer_queue.specs.Calls.{IsFresh, KeepsDebts, RefusesClose, RefusesOwe};
 ghost use Rattle.peer_queue.specs.DebtPlace.{Ready, with_place};
 ghost use Rattle.peer_queue.specs.Words.{AreHonest, IsBroken, Notes, ledger_of, open_key, places_of};
-ghost use Rattle.peer_queue.specs.Words.{tape_of, faults_of};
+ghost use Rattle.peer_queue.specs.Words.{Continues, StandsFor, faults_of, pending_of, tape_of};
 ghost use Rattle.recovery.specs.Image.{EachTape, Survives};
 ghost use Rattle.recovery.specs.Notes.{History};
 ghost use Rattle.recovery.specs.Opens.{HasCause, Opens, OpensWhatSurvives};
@@ -125,12 +124,18 @@ impl<D: Disk> PostPeer<D> {
     /// `Broken`; `NoMemory`; `Tape(TapeFull)` if what it owes is too long even for a rewritten tape, or if its tape has
     /// the greatest generation; `Tape(Disk)`: the station is broken from now on.
     pub fn flush_or_rotate(&mut self) -> Result<(), StationFault>
-        ensures ledger { ledger_of self.new.station ≡ ledger_of self.old.station }
-        ensures places { places_of self.new.station ≡ places_of self.old.station }
+        ensures flushes { (h : History) → StandsFor self.old.station h
+            → AcknowledgesOr (StationFault.Tape TapeFault.Disk) h (tape_of self.old.station)
+            (tape_of self.new.station) result }
         ensures flushed { OnOk result (IsFlushed self.new.station) }
-        ensures full { IsErrOf result (StationFault.Tape TapeFault.TapeFull)
-            → HasNoRoom self.old.station }
-        ensures kinds { IfErr result IsFlushFault }
+        ensures empty { pending_of self.old.station ≡ 0
+            → (self.new.station ≡ self.old.station)
+            × ((IsBroken self.old.station → ⊥) → IsOk result) }
+        ensures refuses { RefusesOrRotates self.old.station self.new.station result }
+        ensures keeps { KeepsDebts self.old.station self.new.station }
+        ensures continues { Continues self.old.station self.new.station }
+        ensures quiet { OnOk result
+            (faults_of self.new.station ≡ faults_of self.old.station) }
         ensures name { self.new.name ≡ self.old.name }
     {
         flush_or_rotate(&mut self.station)

@@ -2,36 +2,33 @@ use Rattle.std.proofs.Common.{rules}
 use Rattle.std.specs.Prelude.{◌≡◌, IsErrOf}
 use Rattle.peer_queue.specs.declared.fault.StationFault.TheVariants.{Tape}
 use Rattle.recovery.specs.declared.fault.TapeFault.TheVariants.{TapeFull}
-use Rattle.flusher.proofs.Keeps.{keeps_flushed, same_if_full}
+use Rattle.flusher.proofs.Rotated.{acknowledged_behind, continued_behind, kept_behind, left_behind}
+use Rattle.flusher.proofs.Rotated.{quiet_behind, refused_not_ok, same_behind}
 use Rattle.flusher.proofs.room.flush_or_rotate.Goals as goal
 
-pub returns-in-Ok-clause-kept : goal.returns-in-Ok-clause-kept
-returns-in-Ok-clause-kept g c kept =
-    let e = c.flush.ensures in
-    keeps_flushed c.args.station.now c.flush.new.self c.flush.result e.continues.honest
-    (λ h stands. (e.flushes h stands).ok) (λ h stands. (e.flushes h stands).stays) kept
-
-pub returns-in-Err-Tape-TapeFull-clause-kept : goal.returns-in-Err-Tape-TapeFull-clause-kept
-returns-in-Err-Tape-TapeFull-clause-kept g c kept =
-    let e = c.flush.ensures in
-    c.rotate_full.ensures.kept (keeps_flushed c.args.station.now c.flush.new.self c.flush.result e.continues.honest
-    (λ h stands. (e.flushes h stands).ok) (λ h stands. (e.flushes h stands).stays) kept)
-
-pub returns-in-Err-Tape-TapeFull-clause-full : goal.returns-in-Err-Tape-TapeFull-clause-full
-returns-in-Err-Tape-TapeFull-clause-full g c refused =
-    let ended : IsErrOf c.flush.result (Tape TapeFull) = search rules in
-    let full = c.flush.ensures.refuses.full.0 ended in
-    let fault : c.in-Err-Tape-TapeFull.field-0 ≡ Tape TapeFull = search rules in
+pub returns-then-is_full : goal.returns-then-is_full
+returns-then-is_full g c =
+    let old = c.args.station.now in
+    let left = c.flush_once-flushed.new.station in
+    let new = c.rotate_full.new.station in
+    let e = c.flush_once-flushed.ensures in
+    let r = c.rotate_full.ensures in
+    let ended : IsErrOf c.flush_once-flushed.result (Tape TapeFull) = search rules in
+    let full = e.full ended in
+    let same = same_behind old left c.flush_once-flushed.result ended e.unchanged in
     record {
-      full = full.1;
-      left = c.flush.new.self;
-      same = same_if_full c.args.station.now c.flush.new.self c.in-Err-Tape-TapeFull.field-0
-          c.in-Err-Tape-TapeFull.ensures.refuses.unchanged fault;
-      anew = c.rotate_full.ensures.full refused;
+      flushes = λ h stands. acknowledged_behind h old left new c.rotate_full.result same
+          (r.flushes h (same.stands h stands));
+      flushed = r.flushed;
+      empty = λ none. absurd (refused_not_ok c.flush_once-flushed.result (Tape TapeFull) ended
+          ((e.empty none).1 full.0));
+      broken = (λ is. absurd (full.0 (same.works.1 (r.broken.0 is))), λ is. absurd (full.0 is));
+      full = λ is. record { full = full.1; left = left; same = same; anew = r.full is };
+      unchanged = left_behind old left new c.rotate_full.result same r.unchanged;
+      breaks = r.breaks;
+      kinds = r.kinds;
+      keeps = kept_behind old left new same r.keeps;
+      continues = continued_behind old left new e.continues r.continues;
+      quiet = quiet_behind old left new c.rotate_full.result same r.quiet;
+      kept = λ kept. r.kept (e.kept kept);
     }
-
-pub returns-in-Err-clause-kept : goal.returns-in-Err-clause-kept
-returns-in-Err-clause-kept g c kept =
-    let e = c.flush.ensures in
-    keeps_flushed c.args.station.now c.flush.new.self c.flush.result e.continues.honest
-    (λ h stands. (e.flushes h stands).ok) (λ h stands. (e.flushes h stands).stays) kept
