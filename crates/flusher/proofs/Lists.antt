@@ -1,9 +1,10 @@
 -- Lists that are made of others, one item after another.
 use Rattle.std.proofs.Common.{◌≡◌, ℕ, zero, suc, ◌+◌, List, [], ◌∷◌, ◌++◌, length, refl, ap, sym, ◌∙◌}
 use Rattle.std.proofs.Common.{add-one, arith}
-use Rattle.std.specs.Prelude.{drop, map, sum_by, slice_get, Some}
+use Rattle.std.specs.Prelude.{◌<◌, drop, map, sum_by, slice_get, take, Some}
+use Rattle.std.proofs.Math.Seq.{take-append_seam}
 use Rattle.std.proofs.lemmas.List.Sums.{sum_by-append}
-use Rattle.std.proofs.lemmas.List.{map-append}
+use Rattle.std.proofs.lemmas.List.{length-append, length-map, map-append}
 
 -- what was made, and what is left to be made, is the same when one more was made
 pub moved : {A B C : Type 0} (f : A → C) (h : B → C) (before : List B) (b : B) (x : A) (left : List A)
@@ -33,6 +34,23 @@ all_moved (y ∷ ys) = ap (λ (cs : List _). y ∷ cs) (all_moved ys)
 pub nothing : {A : Type 0} (xs : List A) → length xs ≡ 0 → xs ≡ []
 nothing [] none = refl
 nothing (x ∷ xs) none = absurd (omega arith)
+
+-- what was made is of the first of all
+pub made_first : {A B C : Type 0} (f : A → C) (h : B → C) (before : List B) (left : List A) (all : List C) (k : ℕ)
+    → map h before ++ map f left ≡ all → k ≡ length before → map h before ≡ take k all
+made_first f h before left all k is long =
+    sym (take-append_seam (map h before) (map f left))
+    ∙ (ap (λ (cs : List _). take (length (map h before)) cs) is
+    ∙ ap (λ n. take n all) (length-map before h ∙ sym long))
+
+-- and if one more is left, it is fewer
+pub fewer_made : {A B C : Type 0} (f : A → C) (h : B → C) (before : List B) (x : A) (left : List A) (all : List C)
+    (k : ℕ) → map h before ++ map f (x ∷ left) ≡ all → k ≡ length before → k < length all
+fewer_made f h before x left all k is long =
+    let whole = ap length is in
+    let parts = length-append (map h before) (map f (x ∷ left)) in
+    let made = length-map before h in
+    omega (arith, whole, parts, made, long)
 
 -- what comes next is found at the length of what was made
 pub at_moved : {A B C : Type 0} (f : A → C) (h : B → C) (before : List B) (left : List A) (x : A) (all : List C)

@@ -1,6 +1,6 @@
 // Closing a post.
 ghost use Rattle.std.specs.Prelude.{◌≡◌, ℕ, ◌+◌, ◌≤◌, [], List, map, length};
-ghost use Rattle.std.specs.Prelude.{IfErr, IfOk, IfSome, IsSome};
+ghost use Rattle.std.specs.Prelude.{IfErr, IfOk, OnOk};
 ghost use Rattle.std.specs.List.{All};
 ghost use Rattle.std.specs.Vec.{vec_capacity};
 ghost use Rattle.flusher.specs.Closed.{HandsBack};
@@ -16,6 +16,7 @@ use crate::naming::{
 use crate::peer::Sums;
 use crate::post::{Intake, PeerDesk};
 use crate::share::{FeederShare, IntakeShare};
+use crate::stray::Stray;
 use crate::tally::Tally;
 use crate::tape_desk::TapeDesk;
 use crate::{Naming, Post};
@@ -53,8 +54,13 @@ pub struct ClosedPost<D: Disk> {
 pub enum CloseFault<D: Disk, N: Naming> {
     /// Memory was refused: everything is handed back.
     NoMemory(Unclosed<D, N>),
-    /// A lock of this peer held what is another peer's. No run meets it; all that was taken apart is let go.
-    Stranger { peer: usize },
+    /// A lock of this peer held what is another peer's. No run meets it. The peers before it are handed back, closed,
+    /// with what this one's locks held; all else is let go.
+    Stranger {
+        /// The peers before it, in the post's order.
+        closed: Vec<ClosedPeer<D>>,
+        stray: Stray<D, N>,
+    },
 }
 
 /// A post that was not closed, and the shares.
@@ -80,27 +86,28 @@ struct Closing<N: Naming> {
 }
 
 impl<N: Naming> Closing<N> {
-    // Puts together one more peer, the one at this place. `None` if one of its locks held what is another peer's.
+    // Puts together one more peer, the one at this place. Refused if one of its locks held what is another peer's.
     fn peer<D: Disk + Drop, R: Wait>(
         &mut self,
         rt: &R,
         place: usize,
         peer: PeerDesk<D, N>,
         room: Room,
-    ) -> Option<ClosedPeer<D>>
+    ) -> Result<ClosedPeer<D>, Stray<D, N>>
         requires tied { IsTableAt N.names.tables place peer.queue.table.shared.table_id }
-        ensures name { IfSome result
+        ensures name { IfOk result
             (λ closed. (closed.name ≡ peer.name) × (closed.opened ≡ peer.opened)) }
-        ensures folds { IfSome result (λ closed. Folds closed.ends) }
-        ensures parts { IsSome result → (self.new.taken.parts ≡ self.old.taken.parts + 1)
+        ensures folds { IfOk result (λ closed. Folds closed.ends) }
+        ensures parts { OnOk result ((self.new.taken.parts ≡ self.old.taken.parts + 1)
             × (self.new.answered.parts ≡ self.old.answered.parts + 1)
-            × (self.new.dropped.parts ≡ self.old.dropped.parts + 1) }
-        ensures amounts { IfSome result (λ closed. (self.new.taken.amount
+            × (self.new.dropped.parts ≡ self.old.dropped.parts + 1)) }
+        ensures amounts { IfOk result (λ closed. (self.new.taken.amount
             ≡ self.old.taken.amount + (front_shape closed.ends.front).taken)
             × (self.new.answered.amount
             ≡ self.old.answered.amount + (front_shape closed.ends.front).answered)
             × (self.new.dropped.amount
             ≡ self.old.dropped.amount + (front_shape closed.ends.front).dropped)) }
+        ensures stray { IfErr result (λ stray. stray.place ≡ place) }
     {
         let PeerDesk {
             name,
@@ -110,31 +117,25 @@ impl<N: Naming> Closing<N> {
             tape,
             ..
         } = peer;
+        let front = front.into_inner();
+        let tape = tape.into_inner();
+        if front.seat.place != place || tape.place != place {
+            return Err(Stray { place, front, tape });
+        }
         let FrontDesk {
             seat,
             taken,
             answered,
             dropped,
             ..
-        } = front.into_inner();
-        let FrontSeat {
-            place: front_place,
-            sender,
-            ..
-        } = seat;
-        let TapeDesk {
-            place: tape_place,
-            side,
-            ..
-        } = tape.into_inner();
-        if front_place != place || tape_place != place {
-            return None;
-        }
+        } = front;
+        let FrontSeat { sender, .. } = seat;
+        let TapeDesk { side, .. } = tape;
         self.taken.merge(taken);
         self.answered.merge(answered);
         self.dropped.merge(dropped);
         let Room { notes, .. } = room;
-        Some(ClosedPeer {
+        Ok(ClosedPeer {
             name,
             ends: join(rt, &queue, sender, side, notes),
             opened,
@@ -149,7 +150,8 @@ impl<D: Disk + Drop, N: Naming> Post<D, N> {
     /// and those that were not sent, has the shape of the front's.
     ///
     /// # Errors
-    /// `NoMemory`: all is handed back. `Stranger`, which no run meets: all is let go.
+    /// `NoMemory`: all is handed back. `Stranger`, which no run meets: what a peer's locks held is not this peer's, and
+    /// is handed back with the peers before it, which are closed.
     pub fn close<R: Wait>(
         self,
         rt: &R,
@@ -206,10 +208,11 @@ impl<D: Disk + Drop, N: Naming> Post<D, N> {
         let mut place = 0;
         for peer in peers {
             let Some(room) = rooms.pop() else {
-                return Err(CloseFault::Stranger { peer: place });
+                unreachable!()
             };
-            let Some(ended) = all.peer(rt, place, peer, room) else {
-                return Err(CloseFault::Stranger { peer: place });
+            let ended = match all.peer(rt, place, peer, room) {
+                Ok(ended) => ended,
+                Err(stray) => return Err(CloseFault::Stranger { closed, stray }),
             };
             closed.push_reserved(ended);
             place += 1;

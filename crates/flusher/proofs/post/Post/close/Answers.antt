@@ -1,10 +1,11 @@
-use Rattle.std.proofs.Common.{◌≡◌, ◌+◌, ◌++◌, [], map, length, refl, ap, sym, ◌∙◌, arith, rules}
+use Rattle.std.proofs.Common.{◌≡◌, ◌+◌, ◌++◌, [], ◌∷◌, map, length, refl, ap, sym, ◌∙◌, arith, rules}
 use Rattle.std.proofs.lemmas.List.Elements.{All-nil, All-push, All-same}
 use Rattle.note_queue.specs.Folds.{Folds}
 use Rattle.peer_queue.specs.Front.{front_shape}
 use Rattle.flusher.specs.Post.{sums_in, total}
 use Rattle.flusher.specs.Shares.{IntakeCount}
-use Rattle.flusher.proofs.Lists.{all_moved, at_drop, drop_next, length_snoc, moved, nothing, sum_snoc}
+use Rattle.flusher.proofs.Lists.{all_moved, at_drop, drop_next, fewer_made, length_snoc, made_first, moved, nothing}
+use Rattle.flusher.proofs.Lists.{sum_snoc}
 use Rattle.flusher.proofs.post.Post.close.Goals as goal
 
 pub loop-peer-init : goal.loop-peer-init
@@ -51,9 +52,9 @@ loop-peer-preserved g c =
     let step = c.in-Some.ensures.steps.0 in
     let left = c.next.new.self.rest.items in
     let peer = c.in-Some.peer in
-    let one = c.in-Some-peer.ended in
-    let e = c.in-Some-peer.ensures in
-    let parts = e.parts refl in
+    let one = c.in-Ok-peer.ended in
+    let e = c.in-Ok-peer.ensures in
+    let parts = e.parts in
     let made = c.push_reserved.ensures.items in
     let fewer : length l.peer-iterator.rest.items ≡ length left + 1 = ap length step ∙ omega arith in
     let more : length c.push_reserved.new.self.items ≡ length l.closed.items + 1 = ap length made
@@ -88,6 +89,30 @@ loop-peer-preserved g c =
       All-same (λ p. Folds p.ends) c.push_reserved.new.self.items _ made
           (All-push (λ p. Folds p.ends) l.closed.items one was.15 e.folds),
     )
+
+-- the peers before a stray one are closed
+pub returns-in-Err-clause-returned : goal.returns-in-Err-clause-returned
+returns-in-Err-clause-returned g c =
+    let l = c.loop-peer in
+    let step = c.in-Some.ensures.steps.0 in
+    let left = c.next.new.self.rest.items in
+    let peer = c.in-Some.peer in
+    let stray = c.in-Err.stray in
+    let place : stray.place ≡ length l.closed.items = c.in-Err.ensures.stray ∙ l.invariant.12 in
+    let names : map (λ p. p.name) l.closed.items ++ map (λ q. q.name) (peer ∷ left) ≡ c.args.self.names =
+    sym (ap (λ r. map (λ p. p.name) l.closed.items ++ map (λ q. q.name) r) step) ∙ l.invariant.2 in
+    let opened : map (λ p. p.opened) l.closed.items ++ map (λ q. q.opened) (peer ∷ left) ≡ c.args.self.opened =
+    sym (ap (λ r. map (λ p. p.opened) l.closed.items ++ map (λ q. q.opened) r) step) ∙ l.invariant.3 in
+    record {
+      mismatch = stray.mismatch;
+      within = fewer_made (λ q. q.name) (λ p. p.name) l.closed.items peer left c.args.self.names stray.place names
+          place;
+      names = made_first (λ q. q.name) (λ p. p.name) l.closed.items (peer ∷ left) c.args.self.names stray.place names
+          place;
+      opened = made_first (λ q. q.opened) (λ p. p.opened) l.closed.items (peer ∷ left) c.args.self.opened stray.place
+          opened place;
+      folds = l.invariant.15;
+    }
 
 pub returns-clause-names : goal.returns-clause-names
 returns-clause-names g c =
