@@ -1,6 +1,6 @@
 -- How far the lines of a file were taken in.
 use Rattle.std.specs.Prelude.{◌≡◌, ◌↔◌, ◌+◌, ◌⊎◌, ◌<◌, ℕ, Bool, List, [], ◌∷◌, ◌++◌, Option, Some, None, IsTrue, length, map, nat_lt, refl}
-use Rattle.std.proofs.Common.{sym, ◌∙◌, ap, subst, arith}
+use Rattle.std.proofs.Common.{sym, ◌∙◌, ap, subst, arith, inl}
 use Rattle.std.proofs.KnownBytes.{Consumes-nil, Consumes-trans}
 use Rattle.std.proofs.lemmas.List.{append_assoc, append-nil, length-append, length-map, map_push}
 use Rattle.std.proofs.lemmas.List.Concat.{flat_map-append}
@@ -11,7 +11,10 @@ use Rattle.funnel_files.specs.Lines.{HasGiven, left_of, reader_of}
 use Rattle.funnel_files.specs.declared.line_file.LineFile.{LineFile}
 use Rattle.ledger_core.specs.State.{State, after}
 use Rattle.ledger_core.specs.declared.note.Note.{Note}
-use Rattle.backlog_files.specs.Imports.{Begins, Goes_on, Imports, TakesIn, TakesLine, TakesSome, closed, no_line}
+use Rattle.peer_queue.specs.declared.fault.StationFault.{StationFault}
+use Rattle.backlog_files.specs.Imports.{Begins, EndsBy, Goes_on, Imports, TakesIn, TakesLine, TakesSome, closed, no_line}
+use Rattle.backlog_files.specs.declared.fault.ImportFault.{ImportFault}
+use Rattle.backlog_files.specs.declared.fault.ImportFault.TheVariants.{Station, Unread}
 use Rattle.backlog_files.specs.declared.import_report.ImportReport.{ImportReport}
 
 -- one more line
@@ -158,10 +161,10 @@ module _ {R : Type 0} {g : Ghosts R} where
       }
 
   -- wherever it stops, the first lines were taken in
-  pub reaches_some : (octets : List ℕ) (begun now next : State) (number : ℕ) (report : ImportReport) (file : LineFile R g)
-      → Reaches octets begun now number report file → (next ≡ now) ⊎ (next ≡ closed now)
-      → TakesSome octets begun next
-  reaches_some octets begun now next number report file r ends =
+  pub reaches_some : (octets : List ℕ) (begun now next : State) (number : ℕ) (report : ImportReport) (fault : ImportFault)
+      (file : LineFile R g) → Reaches octets begun now number report file → EndsBy fault now next
+      → TakesSome octets begun next fault
+  reaches_some octets begun now next number report fault file r ends =
       let stands = r.stands.stands in
       let behind = behind_given octets r.read r.given stands.lines stands.rest (left_of file) r.consumed stands.splits in
       record {
@@ -173,6 +176,16 @@ module _ {R : Type 0} {g : Ghosts R} where
         imports = r.imports;
         ends = ends;
       }
+
+-- whatever the fault, the source may be open still
+pub ends_open : (fault : ImportFault) (now next : State) → next ≡ now → EndsBy fault now next
+ends_open (Unread reason) now next same = same
+ends_open (Station fault) now next same = inl same
+
+-- a station that refused may have noted that the source is closed
+pub ends_refused : (fault : ImportFault) (refused : StationFault) (now next : State) → fault ≡ Station refused
+    → (next ≡ now) ⊎ (next ≡ closed now) → EndsBy fault now next
+ends_refused fault refused now next is ends = subst (λ f. EndsBy f now next) (sym is) ends
 
 -- an empty piece says that nothing more is there
 pub empty_piece : (piece : List ℕ) (some : Bool) → (IsTrue some ↔ 0 < length piece) → (IsTrue some → ⊥) → piece ≡ []

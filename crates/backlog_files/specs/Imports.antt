@@ -9,6 +9,8 @@ use Rattle.ledger_core.specs.Keys.{key_of}
 use Rattle.ledger_core.specs.State.{State, after, step}
 use Rattle.ledger_core.specs.declared.note.Note.{Note}
 use Rattle.ledger_core.specs.declared.note.Note.TheVariants.{Closed, Owe}
+use Rattle.backlog_files.specs.declared.fault.ImportFault.{ImportFault}
+use Rattle.backlog_files.specs.declared.fault.ImportFault.TheVariants.{Station, Unread}
 use Rattle.backlog_files.specs.declared.import_report.ImportReport.{ImportReport}
 
 -- The notes that the line of this number makes, after this ledger, and the report with it: a good line is owed under
@@ -50,13 +52,19 @@ pub record TakesIn (octets : List ℕ) (begun now : State) (report : ImportRepor
   pub ends : now ≡ closed past
   pub reports : report ≡ record counts { has_rest = nat_lt 0 (length rest) }
 
--- The first lines of the file with these octets were taken in, and the note that closes their source may have been
--- made.
-pub record TakesSome (octets : List ℕ) (begun now : State) : Type 0 where
+-- How a fault leaves the ledger, after the lines that were taken in. If the file could not be read further, their source
+-- is still open, so that the next start goes on after them. If the station refused, the note that closes it may have
+-- been made.
+abbrev pub EndsBy : ImportFault → State → State → Type 0
+EndsBy (Unread reason) past now = now ≡ past
+EndsBy (Station fault) past now = (now ≡ past) ⊎ (now ≡ closed past)
+
+-- The first lines of the file with these octets were taken in, and then this fault came.
+pub record TakesSome (octets : List ℕ) (begun now : State) (fault : ImportFault) : Type 0 where
   pub lines : List (List ℕ)
   pub behind : List ℕ
   pub parts : octets ≡ ended lines ++ behind
   pub past : State
   pub counts : ImportReport
   pub imports : Imports begun (map clipped lines) past counts
-  pub ends : (now ≡ past) ⊎ (now ≡ closed past)
+  pub ends : EndsBy fault past now

@@ -179,7 +179,7 @@ pub fn take_in<D: Disk, R: Read + Drop>(
     ensures imports { (octets : List ℕ) → HasGiven lines.old [] []
         → left_of lines.old ≡ Some octets → MatchResult result
         (TakesIn octets (ledger_of peer.old.station) (ledger_of peer.new.station))
-        (λ _. TakesSome octets (ledger_of peer.old.station) (ledger_of peer.new.station)) }
+        (TakesSome octets (ledger_of peer.old.station) (ledger_of peer.new.station)) }
     ensures flushed { OnOk result (IsFlushed peer.new.station) }
     ensures kinds { (fault : StationFault) → result ≡ Err (ImportFault.Station fault)
         → IsImportFault fault }

@@ -1,8 +1,12 @@
-use Rattle.std.proofs.Common.{◌≡◌, ◌∙◌, ℕ, List, [], inl, refl, rules, subst, sym}
+use Rattle.std.proofs.Common.{◌≡◌, ◌∙◌, ℕ, List, [], refl, rules, subst, sym}
 use Rattle.std.specs.Prelude.{IsTrue}
 use Rattle.peer_queue.specs.Words.{ledger_of}
 use Rattle.backlog_files.specs.Imports.{TakesIn, TakesSome}
-use Rattle.backlog_files.proofs.Reach.{empty_piece, reaches_end, reaches_line, reaches_none, reaches_piece, reaches_same, reaches_some}
+use Rattle.peer_queue.specs.declared.fault.StationFault.{StationFault}
+use Rattle.backlog_files.specs.declared.fault.ImportFault.{ImportFault}
+use Rattle.backlog_files.specs.declared.fault.ImportFault.TheVariants.{Station}
+use Rattle.backlog_files.proofs.Reach.{empty_piece, ends_open, ends_refused, reaches_end, reaches_line, reaches_none}
+use Rattle.backlog_files.proofs.Reach.{reaches_piece, reaches_same, reaches_some}
 use Rattle.backlog_files.proofs.import.take_in.Goals as goal
 use Rattle.backlog_files.proofs.import.take_in.Goals.{in-Some+in_ok-take-in-Some, in-None+in_ok-read_piece-in-None+else-not-branch}
 
@@ -16,26 +20,34 @@ loop-init g c = (
 
 pub returns-in_err-take-in-Some-clause-imports : goal.returns-in_err-take-in-Some-clause-imports
 returns-in_err-take-in-Some-clause-imports g c octets given known =
-    let some : TakesSome octets (ledger_of c.args.peer.now.station) (ledger_of c.take.new.peer.station) =
-    reaches_some octets (ledger_of c.args.peer.now.station) (ledger_of c.loop.peer.station)
-    (ledger_of c.take.new.peer.station) c.loop.import.number c.loop.import.report c.loop.lines
-    (c.loop.invariant.0 octets given known) (inl c.in_err-take-in-Some.ensures.refused.0) in
+    let begun = ledger_of c.args.peer.now.station in
+    let now = ledger_of c.loop.peer.station in
+    let next = ledger_of c.take.new.peer.station in
+    let some : (fault : ImportFault) → TakesSome octets begun next fault = λ fault.
+    reaches_some octets begun now next c.loop.import.number c.loop.import.report fault c.loop.lines
+    (c.loop.invariant.0 octets given known)
+    (ends_open fault now next c.in_err-take-in-Some.ensures.refused.0) in
     search (some, rules)
 
 pub returns-in_err-read_piece-in-None-clause-imports : goal.returns-in_err-read_piece-in-None-clause-imports
 returns-in_err-read_piece-in-None-clause-imports g c octets given known =
-    let some : TakesSome octets (ledger_of c.args.peer.now.station) (ledger_of c.loop.peer.station) =
-    reaches_some octets (ledger_of c.args.peer.now.station) (ledger_of c.loop.peer.station)
-    (ledger_of c.loop.peer.station) c.loop.import.number c.loop.import.report c.loop.lines
-    (c.loop.invariant.0 octets given known) (inl refl) in
+    let begun = ledger_of c.args.peer.now.station in
+    let now = ledger_of c.loop.peer.station in
+    let some : (fault : ImportFault) → TakesSome octets begun now fault = λ fault.
+    reaches_some octets begun now now c.loop.import.number c.loop.import.report fault c.loop.lines
+    (c.loop.invariant.0 octets given known) (ends_open fault now now refl) in
     search (some, rules)
 
 pub returns-in_err-close-in-None-clause-imports : goal.returns-in_err-close-in-None-clause-imports
 returns-in_err-close-in-None-clause-imports g c octets given known =
-    let some : TakesSome octets (ledger_of c.args.peer.now.station) (ledger_of c.close.new.peer.station) =
-    reaches_some octets (ledger_of c.args.peer.now.station) (ledger_of c.loop.peer.station)
-    (ledger_of c.close.new.peer.station) c.loop.import.number c.loop.import.report c.loop.lines
-    (c.loop.invariant.0 octets given known) c.in_err-close-in-None.ensures.refused in
+    let begun = ledger_of c.args.peer.now.station in
+    let now = ledger_of c.loop.peer.station in
+    let next = ledger_of c.close.new.peer.station in
+    let some : (fault : ImportFault) (refused : StationFault) → fault ≡ Station refused
+    → TakesSome octets begun next fault = λ fault refused is.
+    reaches_some octets begun now next c.loop.import.number c.loop.import.report fault c.loop.lines
+    (c.loop.invariant.0 octets given known)
+    (ends_refused fault refused now next is c.in_err-close-in-None.ensures.refused) in
     search (some, rules)
 
 pub returns-then-not-branch-clause-imports : goal.returns-then-not-branch-clause-imports
@@ -83,6 +95,8 @@ loop-preserved g c = elim c.match-next_read.branch [
 
 pub returns-clause-imports : goal.returns-clause-imports
 returns-clause-imports g c octets given known =
-    reaches_some octets (ledger_of c.args.peer.now.station) (ledger_of c.loop.peer.station)
-    (ledger_of c.loop.peer.station) c.loop.import.number c.loop.import.report c.loop.lines
-    (c.loop.invariant.0 octets given known) (inl refl)
+    let now = ledger_of c.loop.peer.station in
+    let some : (fault : ImportFault) → TakesSome octets (ledger_of c.args.peer.now.station) now fault = λ fault.
+    reaches_some octets (ledger_of c.args.peer.now.station) now now c.loop.import.number c.loop.import.report fault
+    c.loop.lines (c.loop.invariant.0 octets given known) (ends_open fault now now refl) in
+    search (some, rules)
