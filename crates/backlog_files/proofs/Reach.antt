@@ -12,7 +12,8 @@ use Rattle.funnel_files.specs.declared.line_file.LineFile.{LineFile}
 use Rattle.ledger_core.specs.State.{State, after}
 use Rattle.ledger_core.specs.declared.note.Note.{Note}
 use Rattle.peer_queue.specs.declared.fault.StationFault.{StationFault}
-use Rattle.backlog_files.specs.Imports.{Begins, EndsBy, Goes_on, Imports, TakesIn, TakesLine, TakesSome, closed, no_line}
+use Rattle.backlog_files.specs.Imports.{Begins, EndsBy, Goes_on, Imports, TakesIn, TakesLine, TakesSome, closed}
+use Rattle.backlog_files.specs.Imports.{no_line}
 use Rattle.backlog_files.specs.declared.fault.ImportFault.{ImportFault}
 use Rattle.backlog_files.specs.declared.fault.ImportFault.TheVariants.{Station, Unread}
 use Rattle.backlog_files.specs.declared.import_report.ImportReport.{ImportReport}
@@ -161,8 +162,8 @@ module _ {R : Type 0} {g : Ghosts R} where
       }
 
   -- wherever it stops, the first lines were taken in
-  pub reaches_some : (octets : List ℕ) (begun now next : State) (number : ℕ) (report : ImportReport) (fault : ImportFault)
-      (file : LineFile R g) → Reaches octets begun now number report file → EndsBy fault now next
+  pub reaches_some : (octets : List ℕ) (begun now next : State) (number : ℕ) (report : ImportReport)
+      (fault : ImportFault) (file : LineFile R g) → Reaches octets begun now number report file → EndsBy fault now next
       → TakesSome octets begun next fault
   reaches_some octets begun now next number report fault file r ends =
       let stands = r.stands.stands in

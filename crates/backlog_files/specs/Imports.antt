@@ -52,9 +52,9 @@ pub record TakesIn (octets : List ℕ) (begun now : State) (report : ImportRepor
   pub ends : now ≡ closed past
   pub reports : report ≡ record counts { has_rest = nat_lt 0 (length rest) }
 
--- How a fault leaves the ledger, after the lines that were taken in. If the file could not be read further, their source
--- is still open, so that the next start goes on after them. If the station refused, the note that closes it may have
--- been made.
+-- How a fault leaves the ledger, after the lines that were taken in. If the file could not be read further, their
+-- source is still open, so that the next start goes on after them. If the station refused, the note that closes it may
+-- have been made.
 abbrev pub EndsBy : ImportFault → State → State → Type 0
 EndsBy (Unread reason) past now = now ≡ past
 EndsBy (Station fault) past now = (now ≡ past) ⊎ (now ≡ closed past)
