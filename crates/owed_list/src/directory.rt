@@ -1,5 +1,5 @@
 // The backlog directory: the names in it, and the tapes.
-use crate::reading::{TapePaths, read_files};
+use crate::reading::{TapeOctets, TapePaths, read_files};
 use crate::snapshot::Snapshot;
 use crate::strangers::{FIRST_FILE, SECOND_FILE, strangers_of};
 use crate::unread::UnreadTape;
@@ -8,7 +8,7 @@ use feed_conf::PeerConf;
 use recovery::{Tape, TapeFault};
 use std::alloc::{AllocError, Global};
 use std::collections::BTreeSet;
-use std::fs::{self, File};
+use std::fs::{self, DirEntry, File};
 use std::io::{self, ErrorKind};
 use std::rt::Files;
 use std::str;
@@ -34,18 +34,11 @@ impl<F: AllocGlobal + Files<File = File>> Directory<'_, F> {
         Ok(names)
     }
 
-    // The names of the files in it. A name that is not text is nobody's.
+    // The names of the files in it.
     fn names(&self) -> io::Result<Vec<Vec<u8>>> {
         let mut names = Vec::new(self.alloc);
         for entry in fs::read_dir(&self.files, self.path)? {
-            match entry {
-                Ok(entry) => names.push(Vec::from_slice(
-                    self.alloc,
-                    entry.file_name().as_bytes(),
-                )?)?,
-                Err(error) if error.kind() == ErrorKind::InvalidFilename => {}
-                Err(error) => return Err(error),
-            }
+            add_name(self.alloc, &mut names, entry)?;
         }
         Ok(names)
     }
@@ -55,12 +48,9 @@ impl<F: AllocGlobal + Files<File = File>> Directory<'_, F> {
     /// # Errors
     /// Memory was refused.
     pub fn path_of(&self, name: &[u8], ending: &str) -> Result<String, AllocError> {
-        let mut path = String::from_str(self.alloc, self.path)?;
-        path.push('/')?;
         // A name is text.
-        path.push_str(str::from_utf8(name).unwrap_or(""))?;
-        path.push_str(ending)?;
-        Ok(path)
+        let name = str::from_utf8(name).unwrap_or("");
+        format!(in self.alloc; "{}/{}{}", self.path, name, ending)
     }
 
     /// Opens the tape of this name from what was read of its files.
@@ -68,21 +58,18 @@ impl<F: AllocGlobal + Files<File = File>> Directory<'_, F> {
     /// # Errors
     /// Why it could not be read.
     pub fn open_tape(&self, name: &[u8]) -> Result<ReadTape, UnreadTape> {
-        let paths = match self.paths_of(name) {
-            Ok(paths) => paths,
-            Err(_) => return Err(UnreadTape::Fault(TapeFault::NoMemory)),
-        };
-        let (a, b) = match read_files(self.alloc, self.files, &paths) {
-            Ok(both) => both,
-            Err(unread) => return Err(UnreadTape::File(unread)),
-        };
-        let (a, b) = (
-            FileDisk::new(Snapshot::new(a)),
-            FileDisk::new(Snapshot::new(b)),
-        );
-        match Tape::open(self.alloc, a, b) {
+        let (a, b) = self.read_tape(name)?;
+        match Tape::open(self.alloc, disk_of(a), disk_of(b)) {
             Ok(tape) => Ok(tape),
             Err(refused) => Err(UnreadTape::Fault(refused.fault)),
+        }
+    }
+
+    // The octets of its files.
+    fn read_tape(&self, name: &[u8]) -> Result<TapeOctets, UnreadTape> {
+        match self.paths_of(name) {
+            Ok(paths) => Ok(read_files(self.alloc, self.files, &paths)?),
+            Err(_) => Err(UnreadTape::Fault(TapeFault::NoMemory)),
         }
     }
 
@@ -91,5 +78,26 @@ impl<F: AllocGlobal + Files<File = File>> Directory<'_, F> {
             a: self.path_of(name, FIRST_FILE)?,
             b: self.path_of(name, SECOND_FILE)?,
         })
+    }
+}
+
+// A disk with the octets of a tape's file.
+fn disk_of(octets: Vec<u8>) -> FileDisk<Snapshot> {
+    FileDisk::new(Snapshot::new(octets))
+}
+
+// Adds the name of this file. A name that is not text is nobody's.
+fn add_name<F: Files>(
+    alloc: Global,
+    names: &mut Vec<Vec<u8>>,
+    entry: io::Result<DirEntry<&F>>,
+) -> io::Result<()> {
+    match entry {
+        Ok(entry) => {
+            names.push(Vec::from_slice(alloc, entry.file_name().as_bytes())?)?;
+            Ok(())
+        }
+        Err(error) if error.kind() == ErrorKind::InvalidFilename => Ok(()),
+        Err(error) => Err(error),
     }
 }

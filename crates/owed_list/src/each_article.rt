@@ -1,93 +1,77 @@
 // A list that has a line for each article.
 use crate::directory::ReadTape;
 use crate::fault::ListFault;
-use crate::kept::ArticleLines;
-use crate::lines::add_debt;
-use crate::lister::Lister;
-use feed_ends::Scope;
+use crate::kept::{KeptFault, TakesArticles};
+use crate::lines::{Article, Owed, add_article, add_debt};
+use crate::walk::ListsNames;
 use ledger_core::Key;
-use log::Log;
 use recovery::TapeFault;
-use std::alloc::Global;
-use std::fs::File;
-use std::io::Write;
-use std::rt::Files;
+use std::alloc::{AllocError, Global};
+use std::collections::BTreeSet;
+use std::io::{self, Write};
 
-/// Lists the articles that wait for the names that the list has.
-///
-/// # Errors
-/// The first one.
-pub(crate) fn list_articles<R: Log, F: AllocGlobal + Files<File = File>, W: Write>(
-    lister: &Lister<'_, R, F>,
-    out: &mut W,
-) -> Result<(), ListFault> {
-    match lister.listing.scope {
-        Scope::Peers => list_peers(lister, out),
-        Scope::All => list_all(lister, out),
-    }
+/// Lists articles, a line for each.
+#[derive(Drop)]
+pub(crate) struct ArticleLines<'a, W> {
+    alloc: Global,
+    // Lines that are not written yet.
+    text: Vec<u8>,
+    out: &'a mut W,
 }
 
-// Lists the debts of the peers.
-fn list_peers<R: Log, F: AllocGlobal + Files<File = File>, W: Write>(
-    lister: &Lister<'_, R, F>,
-    out: &mut W,
-) -> Result<(), ListFault> {
-    for peer in lister.peers {
-        let name = peer.name.bytes();
-        if lister.has(name) {
-            list_tape(lister, name, out)?;
+impl<'a, W: Write> ArticleLines<'a, W> {
+    /// Lines that are written to this writer.
+    pub fn new(alloc: Global, out: &'a mut W) -> Self {
+        ArticleLines {
+            alloc,
+            text: Vec::new(alloc),
+            out,
         }
     }
-    Ok(())
-}
 
-// Lists all that waits.
-fn list_all<R: Log, F: AllocGlobal + Files<File = File>, W: Write>(
-    lister: &Lister<'_, R, F>,
-    out: &mut W,
-) -> Result<(), ListFault> {
-    let strangers = lister.strangers()?;
-    lister.take_unknown(&mut ArticleLines::new(lister.directory.alloc, out))?;
-    for peer in lister.peers {
-        list_name(lister, peer.name.bytes(), out)?;
-    }
-    for name in &strangers {
-        list_name(lister, name, out)?;
-    }
-    Ok(())
-}
-
-// Lists what waits for this name, if the list has it.
-fn list_name<R: Log, F: AllocGlobal + Files<File = File>, W: Write>(
-    lister: &Lister<'_, R, F>,
-    name: &[u8],
-    out: &mut W,
-) -> Result<(), ListFault> {
-    if !lister.has(name) {
-        return Ok(());
-    }
-    lister.take_kept(name, &mut ArticleLines::new(lister.directory.alloc, out))?;
-    list_tape(lister, name, out)
-}
-
-// Lists the debts of the peer of this name.
-fn list_tape<R: Log, F: AllocGlobal + Files<File = File>, W: Write>(
-    lister: &Lister<'_, R, F>,
-    name: &[u8],
-    out: &mut W,
-) -> Result<(), ListFault> {
-    let mut tape = lister.open_tape(name)?;
-    let alloc = lister.directory.alloc;
-    let keys = tape.keys()?;
-    let mut line = Vec::new(alloc);
-    for key in &keys {
-        line.clear();
-        add_debt_of(alloc, &mut line, name, &mut tape, *key)?;
-        if let Err(error) = out.write_all(&line) {
-            return Err(ListFault::output(alloc, &error));
+    // Writes the line for the debt of this key.
+    fn list_debt(&mut self, name: &[u8], tape: &mut ReadTape, key: Key) -> Result<(), ListFault> {
+        add_debt_of(self.alloc, &mut self.text, name, tape, key)?;
+        match self.write() {
+            Ok(()) => Ok(()),
+            Err(error) => Err(ListFault::output(self.alloc, &error)),
         }
     }
-    Ok(())
+
+    // Writes the lines that were added, and holds none any more.
+    fn write(&mut self) -> io::Result<()> {
+        self.out.write_all(&self.text)?;
+        self.text.clear();
+        Ok(())
+    }
+}
+
+impl<W: Write> TakesArticles for ArticleLines<'_, W> {
+    fn take(&mut self, owed: Owed<'_>, article: &Article<'_>) -> Result<(), KeptFault> {
+        add_article(&mut self.text, owed, article)?;
+        Ok(())
+    }
+
+    fn put(&mut self) -> Result<(), KeptFault> {
+        match self.write() {
+            Ok(()) => Ok(()),
+            Err(error) => Err(KeptFault::Output(error)),
+        }
+    }
+}
+
+impl<W: Write> ListsNames for ArticleLines<'_, W> {
+    fn add_left(&self, _names: &mut BTreeSet<Vec<u8>>) -> Result<(), AllocError> {
+        Ok(())
+    }
+
+    fn list_tape(&mut self, name: &[u8], tape: &mut ReadTape) -> Result<(), ListFault> {
+        let keys = tape.keys()?;
+        for key in &keys {
+            self.list_debt(name, tape, *key)?;
+        }
+        Ok(())
+    }
 }
 
 // Adds the line for the debt of this key.

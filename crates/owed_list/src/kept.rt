@@ -1,21 +1,19 @@
 // Articles that wait in files of lines beside the tapes.
-use crate::lines::{Article, Owed, add_article, article_of};
+use crate::lines::{Article, Owed, article_of};
 use crate::reading::open_file;
-use crate::summary::Waiting;
 use crate::unread::{Undone, UnreadFile};
 use crate::wanted::may_list;
 use funnel::LineCutter;
 use std::alloc::{AllocError, AllocFailed, Global};
-use std::collections::BTreeMap;
 use std::fs::File;
-use std::io::{self, ErrorKind, Read, Write};
+use std::io::{self, ErrorKind, Read};
 use std::rt::Files;
 
 // How many octets are read at a time.
 const PIECE_OCTETS: usize = 65_536;
 
 /// How many lines a file has.
-#[derive(Clone, Copy, Debug, PartialEq, Eq)]
+#[derive(Clone, Copy)]
 pub(crate) struct LineCounts {
     /// Good ones.
     pub listed: u64,
@@ -40,6 +38,12 @@ impl From<AllocError> for KeptFault {
     }
 }
 
+impl From<UnreadFile> for KeptFault {
+    fn from(unread: UnreadFile) -> Self {
+        KeptFault::Unread(unread)
+    }
+}
+
 impl<T: Drop> From<AllocFailed<T>> for KeptFault {
     fn from(_: AllocFailed<T>) -> Self {
         KeptFault::NoMemory
@@ -61,81 +65,12 @@ pub(crate) trait TakesArticles {
     fn put(&mut self) -> Result<(), KeptFault>;
 }
 
-/// Lists articles, a line for each.
+/// Articles that are counted, and nothing else.
 #[derive(Drop)]
-pub(crate) struct ArticleLines<'a, W> {
-    text: Vec<u8>,
-    out: &'a mut W,
-}
+pub(crate) struct CountedAlone;
 
-impl<'a, W: Write> ArticleLines<'a, W> {
-    /// Lines that are written to this writer.
-    pub fn new(alloc: Global, out: &'a mut W) -> Self {
-        ArticleLines {
-            text: Vec::new(alloc),
-            out,
-        }
-    }
-}
-
-impl<W: Write> TakesArticles for ArticleLines<'_, W> {
-    fn take(&mut self, owed: Owed<'_>, article: &Article<'_>) -> Result<(), KeptFault> {
-        add_article(&mut self.text, owed, article)?;
-        Ok(())
-    }
-
-    fn put(&mut self) -> Result<(), KeptFault> {
-        if let Err(error) = self.out.write_all(&self.text) {
-            return Err(KeptFault::Output(error));
-        }
-        self.text.clear();
-        Ok(())
-    }
-}
-
-/// Adds up, for each name, the articles that wait for it.
-#[derive(Drop)]
-pub(crate) struct WaitingByName {
-    alloc: Global,
-    names: BTreeMap<Vec<u8>, Waiting>,
-}
-
-impl WaitingByName {
-    /// Of no name yet.
-    pub fn new(alloc: Global) -> Self {
-        WaitingByName {
-            alloc,
-            names: BTreeMap::new(alloc),
-        }
-    }
-
-    /// What waits for this name, which is forgotten.
-    pub fn remove(&mut self, name: &[u8]) -> Waiting {
-        self.names.remove(name).unwrap_or(Waiting::none())
-    }
-
-    /// The names for which something waits and that were not removed.
-    ///
-    /// # Errors
-    /// Memory was refused.
-    pub fn left(&self) -> Result<Vec<Vec<u8>>, AllocError> {
-        let mut names = Vec::new(self.alloc);
-        for name in self.names.keys() {
-            names.push(name.clone()?)?;
-        }
-        Ok(names)
-    }
-}
-
-impl TakesArticles for WaitingByName {
-    fn take(&mut self, _owed: Owed<'_>, article: &Article<'_>) -> Result<(), KeptFault> {
-        let mut waiting = match self.names.get(article.name) {
-            Some(waiting) => *waiting,
-            None => Waiting::none(),
-        };
-        waiting.add(&article.token, &article.id);
-        self.names
-            .insert(Vec::from_slice(self.alloc, article.name)?, waiting)?;
+impl TakesArticles for CountedAlone {
+    fn take(&mut self, _owed: Owed<'_>, _article: &Article<'_>) -> Result<(), KeptFault> {
         Ok(())
     }
 
@@ -162,27 +97,50 @@ pub(crate) fn take_articles<F: Files<File = File>, T: TakesArticles>(
         listed: 0,
         malformed: 0,
     };
-    let mut file = match open_file(alloc, files, path) {
-        Ok(Some(file)) => file,
-        Ok(None) => return Ok(counts),
-        Err(unread) => return Err(KeptFault::Unread(unread)),
+    let Some(file) = open_file(alloc, files, path)? else {
+        return Ok(counts);
     };
-    let mut cutter = LineCutter::new(alloc);
-    let mut piece = vec![in alloc; 0u8; PIECE_OCTETS]?;
+    let mut pieces = FilePieces::of(alloc, file)?;
     for _ in 0..u64::MAX {
-        match file.read(&mut piece) {
-            Ok(0) => break,
-            Ok(count) => {
-                cutter.feed(&piece[..count])?;
-                take_cut(alloc, &mut cutter, owed, names, &mut counts, taker)?;
-            }
-            Err(error) if error.kind() == ErrorKind::Interrupted => {}
-            Err(error) => {
-                return Err(KeptFault::Unread(UnreadFile::new(alloc, path, Undone::Read, error)));
-            }
+        if !pieces.read_next(alloc, path)? {
+            break;
         }
+        take_cut(alloc, &mut pieces.cutter, owed, names, &mut counts, taker)?;
     }
     Ok(counts)
+}
+
+// A file of lines that is read piece by piece.
+#[derive(Drop)]
+struct FilePieces {
+    file: File,
+    piece: Vec<u8>,
+    cutter: LineCutter,
+}
+
+impl FilePieces {
+    fn of(alloc: Global, file: File) -> Result<Self, AllocError> {
+        let piece = vec![in alloc; 0u8; PIECE_OCTETS]?;
+        let cutter = LineCutter::new(alloc);
+        Ok(FilePieces {
+            file,
+            piece,
+            cutter,
+        })
+    }
+
+    // Reads the next piece of the file, which is at this path, and cuts it. False at the file's end.
+    fn read_next(&mut self, alloc: Global, path: &str) -> Result<bool, KeptFault> {
+        match self.file.read(&mut self.piece) {
+            Ok(0) => Ok(false),
+            Ok(count) => {
+                self.cutter.feed(&self.piece[..count])?;
+                Ok(true)
+            }
+            Err(error) if error.kind() == ErrorKind::Interrupted => Ok(true),
+            Err(error) => Err(UnreadFile::new(alloc, path, Undone::Read, error).into()),
+        }
+    }
 }
 
 // Hands on the articles of the lines that are cut, and counts these.

@@ -24,6 +24,7 @@ mod summary;
 mod totals;
 mod unread;
 mod waiting;
+mod walk;
 mod wanted;
 
 pub use list::list_owed;

@@ -1,10 +1,12 @@
 // The list of what is owed.
 use crate::directory::Directory;
-use crate::each_article::list_articles;
+use crate::each_article::ArticleLines;
 use crate::fault::ListFault;
 use crate::lister::{INTAKE, Lister};
-use crate::totals::list_totals;
+use crate::totals::SummaryLines;
+use crate::unread::log_reason;
 use crate::waiting::log_strangers;
+use crate::walk::list_names;
 use feed_conf::PeerConf;
 use feed_ends::{FeedEnd, Listing};
 use log::{Log, info, warn};
@@ -60,8 +62,8 @@ fn try_list<R: AllocGlobal + Log, F: AllocGlobal + Files<File = File>, W: Write>
     out: &mut W,
 ) -> Result<(), ListFault> {
     let alloc = rt.alloc();
-    let directory = match look_at(rt, files, path) {
-        Ok(path) => Directory { alloc, files, path },
+    let text = match look_at(rt, files, path) {
+        Ok(text) => text,
         Err(error) => return Err(ListFault::directory(alloc, first_name(peers), &error)),
     };
     if listing.names.is_empty() {
@@ -69,22 +71,58 @@ fn try_list<R: AllocGlobal + Log, F: AllocGlobal + Files<File = File>, W: Write>
     }
     let lister = Lister {
         rt,
-        directory,
+        directory: Directory {
+            alloc,
+            files,
+            path: text,
+        },
         peers,
         listing,
     };
-    let acknowledged = lister.open_tape(INTAKE).map(|tape| tape.mark());
-    if listing.is_summary {
-        list_totals(&lister, out)?;
-    } else {
-        list_articles(&lister, out)?;
-    }
-    if let Err(error) = out.flush() {
-        return Err(ListFault::output(alloc, &error));
-    }
-    let line = acknowledged?;
-    info!(rt; "acknowledged up to line {}", line);
+    list_after_mark(&lister, out)
+}
+
+// Writes the list. Logs then up to which line all were acknowledged before.
+fn list_after_mark<R: Log, F: AllocGlobal + Files<File = File>, W: Write>(
+    lister: &Lister<'_, R, F>,
+    out: &mut W,
+) -> Result<(), ListFault> {
+    let acknowledged = mark_of(lister);
+    list(lister, out)?;
+    log_mark(lister.rt, acknowledged?);
     Ok(())
+}
+
+// Logs the number of the last line that is acknowledged.
+fn log_mark<R: Log>(rt: &R, line: u64) {
+    info!(rt; "acknowledged up to line {}", line);
+}
+
+// The number of the last line that is acknowledged.
+fn mark_of<R: Log, F: AllocGlobal + Files<File = File>>(
+    lister: &Lister<'_, R, F>,
+) -> Result<u64, ListFault> {
+    match lister.open_tape(INTAKE) {
+        Ok(tape) => Ok(tape.mark()),
+        Err(fault) => Err(fault),
+    }
+}
+
+// Writes the list.
+fn list<R: Log, F: AllocGlobal + Files<File = File>, W: Write>(
+    lister: &Lister<'_, R, F>,
+    out: &mut W,
+) -> Result<(), ListFault> {
+    let alloc = lister.directory.alloc;
+    if lister.listing.is_summary {
+        list_names(lister, &mut SummaryLines::new(alloc, out))?;
+    } else {
+        list_names(lister, &mut ArticleLines::new(alloc, out))?;
+    }
+    match out.flush() {
+        Ok(()) => Ok(()),
+        Err(error) => Err(ListFault::output(alloc, &error)),
+    }
 }
 
 fn first_name(peers: &[PeerConf]) -> &[u8] {
@@ -104,14 +142,22 @@ fn look_at<'a, R: Log, F: Files<File = File>>(
         return Err(ErrorKind::InvalidInput.into());
     };
     match is_locked(files, path) {
-        Ok(true) => warn!(rt; "innfeed works on {}: the list is as of a moment ago", path),
-        Ok(false) => {}
+        Ok(is_locked) => {
+            log_locked(rt, path, is_locked);
+            Ok(path)
+        }
         Err(error) => {
-            info!(rt; "cannot open {}: {}", path, error);
-            return Err(error);
+            log_reason(rt, "cannot open", path, &error);
+            Err(error)
         }
     }
-    Ok(path)
+}
+
+// Logs that a run holds the lock of the directory at this path, if one does.
+fn log_locked<R: Log>(rt: &R, path: &str, is_locked: bool) {
+    if is_locked {
+        warn!(rt; "innfeed works on {}: the list is as of a moment ago", path);
+    }
 }
 
 // Whether a run holds the lock of the directory at this path. The shared lock that is tried ends with this call.

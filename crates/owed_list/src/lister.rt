@@ -4,12 +4,14 @@ use crate::fault::ListFault;
 use crate::kept::{KeptFault, LineCounts, TakesArticles, take_articles};
 use crate::lines::Owed;
 use crate::strangers::KEPT_FILE;
+use crate::unread::log_reason;
 use crate::wanted::is_wanted;
 use feed_conf::PeerConf;
-use feed_ends::Listing;
-use log::{Log, info, warn};
+use feed_ends::{Listing, Scope};
+use log::{Log, warn};
 use std::collections::BTreeSet;
 use std::fs::File;
+use std::io;
 use std::rt::Files;
 
 /// The name of the intake's tape.
@@ -44,12 +46,15 @@ impl<R: Log, F: AllocGlobal + Files<File = File>> Lister<'_, R, F> {
     pub fn strangers(&self) -> Result<BTreeSet<Vec<u8>>, ListFault> {
         match self.directory.strangers(self.peers) {
             Ok(names) => Ok(names),
-            Err(error) => {
-                let path = self.directory.path;
-                info!(self.rt; "cannot read {}: {}", path, error);
-                Err(ListFault::unread(self.directory.alloc, path.as_bytes(), &error))
-            }
+            Err(error) => Err(self.unread_directory(&error)),
         }
+    }
+
+    // The directory cannot be read, for this reason, which is logged.
+    fn unread_directory(&self, error: &io::Error) -> ListFault {
+        let path = self.directory.path;
+        log_reason(self.rt, "cannot read", path, error);
+        ListFault::unread(self.directory.alloc, path.as_bytes(), error)
     }
 
     /// Hands on the articles of `~unknown` that the list has.
@@ -61,11 +66,14 @@ impl<R: Log, F: AllocGlobal + Files<File = File>> Lister<'_, R, F> {
         self.take_file(&path, Owed::Unknown, taker)
     }
 
-    /// Hands on the articles of this name's file `NAME~kept`.
+    /// Hands on the articles of this name's file `NAME~kept`, if the list has all that waits.
     ///
     /// # Errors
     /// The file cannot be read; the list cannot be written; memory was refused.
     pub fn take_kept<T: TakesArticles>(&self, name: &[u8], taker: &mut T) -> Result<(), ListFault> {
+        if self.listing.scope == Scope::Peers {
+            return Ok(());
+        }
         let path = self.directory.path_of(name, KEPT_FILE)?;
         self.take_file(&path, Owed::Kept(name), taker)
     }
@@ -109,9 +117,10 @@ impl<R: Log, F: AllocGlobal + Files<File = File>> Lister<'_, R, F> {
 }
 
 fn log_malformed<R: Log>(rt: &R, path: &str, counts: LineCounts) {
-    match counts.malformed {
-        0 => {}
-        1 => warn!(rt; "{}: 1 malformed line is not listed", path),
-        lines => warn!(rt; "{}: {} malformed lines are not listed", path, lines),
-    }
+    let lines = match counts.malformed {
+        0 => return,
+        1 => "line is",
+        _ => "lines are",
+    };
+    warn!(rt; "{}: {} malformed {} not listed", path, counts.malformed, lines);
 }

@@ -51,11 +51,22 @@ fn read_once<F: Files<File = File>>(
 ) -> Result<Option<TapeOctets>, UnreadFile> {
     let a = read_file(alloc, files, &paths.a)?;
     let b = read_file(alloc, files, &paths.b)?;
-    if begins_as_read(alloc, files, &paths.a, &a)? && begins_as_read(alloc, files, &paths.b, &b)? {
+    if begin_as_read(alloc, files, paths, &a, &b)? {
         Ok(Some((a, b)))
     } else {
         Ok(None)
     }
+}
+
+// Whether both files, of which these octets were read, still begin as they were read.
+fn begin_as_read<F: Files<File = File>>(
+    alloc: Global,
+    files: &F,
+    paths: &TapePaths,
+    a: &[u8],
+    b: &[u8],
+) -> Result<bool, UnreadFile> {
+    Ok(begins_as_read(alloc, files, &paths.a, a)? && begins_as_read(alloc, files, &paths.b, b)?)
 }
 
 // The octets of a file; none if it is missing.

@@ -71,7 +71,15 @@ fn names_of(alloc: Global, peers: &[PeerConf]) -> Result<BTreeSet<Vec<u8>>, Allo
     Ok(names)
 }
 
-fn add_name(alloc: Global, names: &mut BTreeSet<Vec<u8>>, name: &[u8]) -> Result<(), AllocError>
+/// Adds this name to a set.
+///
+/// # Errors
+/// Memory was refused.
+pub(crate) fn add_name(
+    alloc: Global,
+    names: &mut BTreeSet<Vec<u8>>,
+    name: &[u8],
+) -> Result<(), AllocError>
     ensures { OnOk result ((other : List ℕ) → Contains (names_in names.new) other
         ↔ (Contains (names_in names.old) other ⊎ (name.now ≡ other))) }
 {

@@ -12,7 +12,7 @@ use ledger_core::Key;
 use std::alloc::AllocError;
 
 /// How much waits for a name.
-#[derive(Clone, Copy, Debug, PartialEq, Eq)]
+#[derive(Clone, Copy)]
 pub(crate) struct Waiting {
     /// How many articles.
     pub articles: u64,

@@ -7,7 +7,7 @@ use std::fmt::{self, Display, Formatter, Write};
 use std::io;
 
 /// What was not done with a file.
-#[derive(Clone, Copy, Debug, PartialEq, Eq)]
+#[derive(Clone, Copy)]
 pub(crate) enum Undone {
     Open,
     Read,
@@ -40,16 +40,22 @@ impl UnreadFile {
 
     // Logs the reason, if it is a file of a tape.
     fn log_tape<R: Log>(&self, rt: &R) {
-        match self.undone {
-            Undone::Open => info!(rt; "cannot open {}: {}", self.path, self.reason),
-            Undone::Read => info!(rt; "tape file {}: {}", self.path, self.reason),
-        }
+        let what = match self.undone {
+            Undone::Open => "cannot open",
+            Undone::Read => "tape file",
+        };
+        log_reason(rt, what, &self.path, &self.reason);
     }
 
     /// Logs the reason, if it is another file.
     pub fn log<R: Log>(&self, rt: &R) {
-        info!(rt; "cannot read {}: {}", self.path, self.reason);
+        log_reason(rt, "cannot read", &self.path, &self.reason);
     }
+}
+
+/// Logs the system's reason: what was not done with the file or the directory at this path.
+pub(crate) fn log_reason<R: Log>(rt: &R, what: &str, path: &str, reason: &io::Error) {
+    info!(rt; "{} {}: {}", what, path, reason);
 }
 
 /// Why a tape could not be read.
@@ -59,6 +65,12 @@ pub(crate) enum UnreadTape {
     File(UnreadFile),
     /// What its files have is not a tape, or memory was refused.
     Fault(TapeFault),
+}
+
+impl From<UnreadFile> for UnreadTape {
+    fn from(unread: UnreadFile) -> Self {
+        UnreadTape::File(unread)
+    }
 }
 
 impl UnreadTape {

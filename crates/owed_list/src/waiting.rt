@@ -1,16 +1,17 @@
 // What is logged of the files of strangers.
 use crate::directory::Directory;
-use crate::kept::{ArticleLines, KeptFault, take_articles};
+use crate::kept::{CountedAlone, KeptFault, take_articles};
 use crate::lines::{Owed, waiting_line};
 use crate::strangers::{FIRST_FILE, KEPT_FILE};
 use crate::unread::UnreadTape;
 use feed_conf::PeerConf;
 use funnel::PeerName;
 use log::{Log, warn};
+use std::collections::BTreeSet;
 use std::fmt::Display;
 use std::fs::File;
 use std::rt::Files;
-use std::{io, str};
+use std::str;
 
 /// Logs, as a warning, each tape in the backlog directory at this path that is of no peer of the settings, by byte
 /// order of the names: how many articles wait there, unless none does, or why it cannot be read; and each file
@@ -32,16 +33,24 @@ pub fn log_strangers<R: AllocGlobal + Log, F: AllocGlobal + Files<File = File>>(
         path,
     };
     match directory.strangers(peers) {
-        Ok(names) => {
-            for name in &names {
-                if !is_among(others, name) {
-                    log_tape(rt, &directory, name);
-                    log_kept(rt, &directory, name);
-                }
-            }
-        }
+        Ok(names) => log_names(rt, &directory, &names, others),
         Err(error) =>
             warn!(rt; "cannot read {}, so tapes without a peer are not reported: {}", path, error),
+    }
+}
+
+// Logs what waits for each of these names, unless it is one of the others.
+fn log_names<R: Log, F: AllocGlobal + Files<File = File>>(
+    rt: &R,
+    directory: &Directory<'_, F>,
+    names: &BTreeSet<Vec<u8>>,
+    others: &[PeerName],
+) {
+    for name in names {
+        if !is_among(others, name) {
+            log_tape(rt, directory, name);
+            log_kept(rt, directory, name);
+        }
     }
 }
 
@@ -77,16 +86,14 @@ fn log_kept<R: Log, F: AllocGlobal + Files<File = File>>(
     let Ok(path) = directory.path_of(name, KEPT_FILE) else {
         return;
     };
-    let alloc = directory.alloc;
-    let mut sink = io::sink();
-    let mut nowhere = ArticleLines::new(alloc, &mut sink);
+    let (alloc, files) = (directory.alloc, directory.files);
     match take_articles(
         alloc,
-        directory.files,
+        files,
         &path,
         Owed::Kept(name),
         &[],
-        &mut nowhere,
+        &mut CountedAlone,
     ) {
         Ok(counts) => log_waiting(rt, directory, name, KEPT_FILE, counts.listed),
         Err(KeptFault::Unread(unread)) => log_unread(rt, name, KEPT_FILE, &unread.reason),
