@@ -4,7 +4,7 @@ use disk_model::{DirectoryFault, FileDisk, TapeDirectory, TapeFile};
 use feed_conf::PeerConf;
 use feed_ends::TapeError;
 use recovery::TapeFault;
-use std::alloc::Global;
+use std::alloc::{AllocError, Global};
 use std::fs::File;
 use std::io::{self, ErrorKind};
 use std::rt::{Clock, Files};
@@ -53,19 +53,30 @@ pub(crate) fn open_disks<R: Clock, F: AllocGlobal + Files<File = File>>(
         path: String::from_str(alloc, path)?,
         files: Vec::new(alloc),
     };
-    let mut is_well = true;
-    for peer in peers {
-        if is_well || goes_on {
-            is_well &= open_next(files, &mut disks, peer.name.bytes())?;
-        }
-    }
-    if is_well || goes_on {
-        open_next(files, &mut disks, INTAKE)?;
-    }
+    open_all(files, &mut disks, peers, goes_on)?;
     match disks.directory.sync() {
         Ok(()) => Ok(disks),
         Err(error) => Err(RunError::unopened(alloc, first, path.as_bytes(), error)),
     }
+}
+
+// Opens the files of the tapes of these peers, and then of the intake.
+fn open_all<F: AllocGlobal + Files<File = File>>(
+    files: &F,
+    disks: &mut Disks,
+    peers: &[PeerConf],
+    goes_on: bool,
+) -> Result<(), AllocError> {
+    let mut is_well = true;
+    for peer in peers {
+        if is_well || goes_on {
+            is_well &= open_next(files, disks, peer.name.bytes())?;
+        }
+    }
+    if is_well || goes_on {
+        open_next(files, disks, INTAKE)?;
+    }
+    Ok(())
 }
 
 // The name of the first tape.
@@ -114,7 +125,7 @@ fn open_next<F: AllocGlobal + Files<File = File>>(
     files: &F,
     disks: &mut Disks,
     name: &[u8],
-) -> Result<bool, RunError> {
+) -> Result<bool, AllocError> {
     let opened = open_both(files, disks, name);
     let is_well = opened.is_ok();
     disks.files.push(opened)?;
@@ -168,7 +179,5 @@ fn file_name(alloc: Global, name: &[u8], ending: &str) -> Result<String, RunErro
     let Ok(text) = str::from_utf8(name) else {
         return Err(RunError::tape(alloc, name, TapeFault::Disk));
     };
-    let mut path = String::from_str(alloc, text)?;
-    path.push_str(ending)?;
-    Ok(path)
+    Ok(format!(in alloc; "{}{}", text, ending)?)
 }

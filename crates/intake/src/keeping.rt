@@ -52,7 +52,13 @@ fn leave_out<R: Log, F: AllocGlobal + Files<File = File>>(
     if !is_durable || keeper.leave_out(peer.conf.name.clone()?, disk).is_err() {
         return Err(RunError::tape(files.alloc(), name, TapeFault::Disk));
     }
-    match &peer.error {
+    log_left_out(rt, directory, text, &peer.error);
+    Ok(())
+}
+
+// Logs that the peer of this name is left out, for this reason.
+fn log_left_out<R: Log>(rt: &R, directory: &str, text: &str, error: &RunError) {
+    match error {
         RunError::Unopened { path, reason, .. } => {
             let path = str::from_utf8(path).unwrap_or("");
             warn!(
@@ -68,7 +74,6 @@ fn leave_out<R: Log, F: AllocGlobal + Files<File = File>>(
         }
         RunError::OutOfResources | RunError::File(_) => {}
     }
-    Ok(())
 }
 
 // The kind of a tape's fault.

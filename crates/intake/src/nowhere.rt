@@ -129,6 +129,21 @@ impl UnknownPeer {
             self.lines = self.lines.saturating_add(1);
         }
     }
+
+    // Logs how many lines of the funnel at this path name it.
+    fn log<R: Log>(&self, rt: &R, path: &str) {
+        let name = text_of(self.name.bytes());
+        warn!(rt; "{}: {} {} unknown peer {}", path, self.lines, naming(self.lines), name);
+    }
+}
+
+// What so many lines do that name a peer.
+fn naming(lines: u64) -> &'static str {
+    if lines == 1 {
+        "line names"
+    } else {
+        "lines name"
+    }
 }
 
 fn is_named(names: &[PeerName], name: &PeerName) -> bool
@@ -191,12 +206,7 @@ impl Nowhere {
     pub(crate) fn log<R: Log>(&self, rt: &R, path: &[u8]) {
         let path = text_of(path);
         for peer in &self.unknown.named {
-            let name = text_of(peer.name.bytes());
-            if peer.lines == 1 {
-                warn!(rt; "{}: 1 line names unknown peer {}", path, name);
-            } else {
-                warn!(rt; "{}: {} lines name unknown peer {}", path, peer.lines, name);
-            }
+            peer.log(rt, path);
         }
         log_others(rt, path, self.unknown.others);
         log_malformed(rt, path, self.malformed);
@@ -205,10 +215,8 @@ impl Nowhere {
 
 // Logs how many lines name further unknown peers.
 fn log_others<R: Log>(rt: &R, path: &str, lines: u64) {
-    match lines {
-        0 => {}
-        1 => warn!(rt; "{}: 1 line names other unknown peers", path),
-        _ => warn!(rt; "{}: {} lines name other unknown peers", path, lines),
+    if lines > 0 {
+        warn!(rt; "{}: {} {} other unknown peers", path, lines, naming(lines));
     }
 }
 
@@ -223,11 +231,12 @@ fn log_malformed<R: Log>(rt: &R, path: &str, malformed: Option<Malformed>) {
     else {
         return;
     };
-    if lines == 1 {
-        warn!(rt; "{}: 1 malformed line, at line {}: {}", path, number, fault.name());
+    let which = if lines == 1 {
+        "line, at"
     } else {
-        warn!(rt; "{}: {} malformed lines, first at line {}: {}", path, lines, number, fault.name());
-    }
+        "lines, first at"
+    };
+    warn!(rt; "{}: {} malformed {} line {}: {}", path, lines, which, number, fault.name());
 }
 
 // A path or a name, as text.

@@ -4,6 +4,7 @@ ghost use Rattle.std.specs.Prelude.{◌≡◌, [], if◌then◌else◌};
 use disk_model::Disk;
 use flusher::{Naming, Post};
 use funnel::PeerName;
+use ledger_core::Totals;
 use log::{Level, Log, info, log_enabled};
 use std::alloc::{AllocError, Global};
 use std::rt::Clock;
@@ -93,15 +94,18 @@ impl Progress {
             let totals = post.totals(rt, peer);
             let answered = totals.answered.saturating_sub(*before);
             *before = totals.answered;
-            if answered == 0 && totals.owed == 0 {
-                continue;
+            if answered > 0 || totals.owed > 0 {
+                log_peer(rt, name, &totals, answered / seconds.max(1));
             }
-            let rate = answered / seconds.max(1);
-            let name = str::from_utf8(name.bytes()).unwrap_or("");
-            info!(
-                rt; "{}: taken {}, answered {}, owed {}, {} a second",
-                name, totals.taken, totals.answered, totals.owed, rate
-            );
         }
     }
+}
+
+// Logs the progress of the peer of this name, which answers so many debts a second.
+fn log_peer<R: Log>(rt: &R, name: &PeerName, totals: &Totals, rate: u64) {
+    let name = str::from_utf8(name.bytes()).unwrap_or("");
+    info!(
+        rt; "{}: taken {}, answered {}, owed {}, {} a second",
+        name, totals.taken, totals.answered, totals.owed, rate
+    );
 }

@@ -72,7 +72,7 @@ impl<'a, F: AllocGlobal + Files<File = File>> KeptRoom<'a, F> {
         match self.tapes.keep_room(self.files) {
             Ok(()) => {
                 if self.lacking.is_some() {
-                    warn!(rt; "{}/~room: there is room again, so lines are taken again", self.directory);
+                    log_again(rt, self.directory);
                 }
                 self.is_made = true;
                 self.lacking = None;
@@ -97,14 +97,17 @@ impl<'a, F: AllocGlobal + Files<File = File>> KeptRoom<'a, F> {
 
 // Logs that the room cannot be made in the directory at this path, and what is to be done.
 fn log_lack<R: Log>(rt: &R, directory: &str, error: &io::Error) {
-    if error.kind() == ErrorKind::FileTooLarge {
-        warn!(
-            rt; "{}/~room: {}: no line is taken until a file may have 4 MiB: raise its limit (LimitFSIZE, ulimit -f)",
-            directory, error
-        );
+    let wanted = if error.kind() == ErrorKind::FileTooLarge {
+        "a file may have 4 MiB: raise its limit (LimitFSIZE, ulimit -f)"
     } else {
-        warn!(rt; "{}/~room: {}: no line is taken until there are 4 MiB of room", directory, error);
-    }
+        "there are 4 MiB of room"
+    };
+    warn!(rt; "{}/~room: {}: no line is taken until {}", directory, error, wanted);
+}
+
+// Logs that the room could be made again in the directory at this path.
+fn log_again<R: Log>(rt: &R, directory: &str) {
+    warn!(rt; "{}/~room: there is room again, so lines are taken again", directory);
 }
 
 /// Removes the room that a run has kept back in the directory at this path. A failure is logged and no more: the next

@@ -68,12 +68,17 @@ impl<'a, F: AllocGlobal + Files<File = File>> StatusFile<'a, F> {
         match self.put(&text) {
             Ok(()) => Ok(()),
             Err(error) => {
-                if !self.is_told {
-                    self.is_told = true;
-                    log_reason(rt, &self.path, &error);
-                }
+                self.tell(rt, &error);
                 Err(RunError::unwritten(alloc, &self.path, &error))
             }
+        }
+    }
+
+    // Logs why it cannot be written, the first time.
+    fn tell<R: Log>(&mut self, rt: &R, error: &io::Error) {
+        if !self.is_told {
+            self.is_told = true;
+            log_reason(rt, &self.path, error);
         }
     }
 
@@ -94,12 +99,16 @@ impl<'a, F: AllocGlobal + Files<File = File>> StatusFile<'a, F> {
 
     // Writes a file beside the one at this path, and renames it to that.
     fn replace(&self, path: &str, text: &[u8]) -> io::Result<()> {
-        let mut beside = String::from_str(self.files.alloc(), path)?;
-        beside.push_str(".new")?;
-        let mut file = File::create(self.files, beside.as_str())?;
-        file.write_all(text)?;
-        file.sync_all()?;
+        let beside = format!(in self.files.alloc(); "{}.new", path)?;
+        self.write_anew(beside.as_str(), text)?;
         fs::rename(self.files, beside.as_str(), path)
+    }
+
+    // Writes a file at this path, in place of one that is there, and syncs it.
+    fn write_anew(&self, path: &str, text: &[u8]) -> io::Result<()> {
+        let mut file = File::create(self.files, path)?;
+        file.write_all(text)?;
+        file.sync_all()
     }
 }
 

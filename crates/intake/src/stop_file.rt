@@ -50,8 +50,7 @@ impl<'a, F: AllocGlobal + Files<File = File>> StopFile<'a, F> {
 
     // The one in the directory at this path. If it is there already, it is removed.
     fn new<R: Log>(rt: &R, files: &'a F, directory: &str) -> Result<Self, RunError> {
-        let mut path = String::from_str(files.alloc(), directory)?;
-        path.push_str(NAME)?;
+        let path = format!(in files.alloc(); "{}{}", directory, NAME)?;
         let file = StopFile {
             files,
             path,

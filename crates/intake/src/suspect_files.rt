@@ -24,14 +24,18 @@ pub fn read_suspects<R: Log, F: AllocGlobal + Files<File = File>>(
     match read(files, path.as_str()) {
         Ok(text) => Ok(text),
         Err(error) => {
-            if error.kind() != ErrorKind::NotFound {
-                warn!(
-                    rt; "cannot read {}: {}; articles at which connections failed are offered as any other",
-                    path.as_str(), error
-                );
-            }
+            log_unread(rt, path.as_str(), &error);
             Ok(Vec::new(files.alloc()))
         }
+    }
+}
+
+// Logs that the file at this path cannot be read, unless it is not there.
+fn log_unread<R: Log>(rt: &R, path: &str, error: &io::Error) {
+    if error.kind() != ErrorKind::NotFound {
+        warn!(
+            rt; "cannot read {}: {}; articles at which connections failed are offered as any other", path, error
+        );
     }
 }
 
@@ -47,12 +51,12 @@ fn read<F: AllocGlobal + Files<File = File>>(files: &F, path: &str) -> io::Resul
 /// Logs that lines of the file of suspects of the peer of this name are malformed, and were passed over.
 pub fn log_malformed_suspects<R: Log>(rt: &R, directory: &str, name: &[u8], lines: u64) {
     let name = str::from_utf8(name).unwrap_or("");
-    match lines {
-        0 => {}
-        1 => warn!(rt; "{}/{}~suspects: 1 malformed line is passed over", directory, name),
-        _ =>
-            warn!(rt; "{}/{}~suspects: {} malformed lines are passed over", directory, name, lines),
-    }
+    let what = match lines {
+        0 => return,
+        1 => "line is",
+        _ => "lines are",
+    };
+    warn!(rt; "{}/{}~suspects: {} malformed {} passed over", directory, name, lines, what);
 }
 
 /// Keeps this text as the file of suspects of the peer of this name, in the backlog directory at this path, in place of
@@ -96,17 +100,13 @@ fn replace<F: AllocGlobal + Files<File = File>>(
     path: &str,
     text: &[u8],
 ) -> io::Result<()> {
-    let mut beside = String::from_str(files.alloc(), path)?;
-    beside.push_str(".new")?;
+    let beside = format!(in files.alloc(); "{}.new", path)?;
     fs::write(files, beside.as_str(), text)?;
     fs::rename(files, beside.as_str(), path)
 }
 
 // The path of the file of suspects. A peer's name is text.
 fn path_of<F: AllocGlobal>(files: &F, directory: &str, name: &[u8]) -> Result<String, AllocError> {
-    let mut path = String::from_str(files.alloc(), directory)?;
-    path.push('/')?;
-    path.push_str(str::from_utf8(name).unwrap_or(""))?;
-    path.push_str("~suspects")?;
-    Ok(path)
+    let name = str::from_utf8(name).unwrap_or("");
+    format!(in files.alloc(); "{}/{}~suspects", directory, name)
 }

@@ -20,34 +20,49 @@ pub fn log_unknown_lines<R: Log, F: AllocGlobal + Files<File = File>>(
     directory: &str,
 ) {
     match lines_in(files, files.alloc(), directory) {
-        Ok(0) => {}
-        Ok(1) => warn!(
-            rt; "{}/{}: 1 line names a peer that was not configured: queue it by a backlog file, or remove it",
-            directory, UNKNOWN
-        ),
-        Ok(lines) => warn!(
-            rt; "{}/{}: {} lines name peers that were not configured: queue them by backlog files, or remove them",
-            directory, UNKNOWN, lines
-        ),
+        Ok(lines) => log_count(rt, directory, lines),
         Err(error) if error.kind() == ErrorKind::OutOfMemory => {}
         Err(error) => warn!(rt; "{}/{}: {}: its lines are not counted", directory, UNKNOWN, error),
     }
 }
 
+// Logs that so many lines name unknown peers, if there are any.
+fn log_count<R: Log>(rt: &R, directory: &str, lines: u64) {
+    let what = match lines {
+        0 => return,
+        1 => "line names a peer that was not configured: queue it by a backlog file, or remove it",
+        _ =>
+            "lines name peers that were not configured: queue them by backlog files, or remove them",
+    };
+    warn!(rt; "{}/{}: {} {}", directory, UNKNOWN, lines, what);
+}
+
 // How many lines it has in the directory at this path: none if it is not there.
 fn lines_in<F: Files<File = File>>(files: &F, alloc: Global, directory: &str) -> io::Result<u64> {
     let path = format!(in alloc; "{}/{}", directory, UNKNOWN)?;
-    match fs::metadata(files, path.as_str()) {
-        Ok(there) if there.is_file() => {}
-        Ok(_) => return Err(ErrorKind::InvalidInput.into()),
-        Err(error) if error.kind() == ErrorKind::NotFound => return Ok(0),
-        Err(error) => return Err(error),
+    if !is_there(files, path.as_str())? {
+        return Ok(0);
     }
     let mut file = File::open(files, path.as_str())?;
     let mut piece = vec![in alloc; 0u8; PIECE_OCTETS]?;
+    count_lines(&mut file, &mut piece)
+}
+
+// Whether there is a regular file at this path.
+fn is_there<F: Files<File = File>>(files: &F, path: &str) -> io::Result<bool> {
+    match fs::metadata(files, path) {
+        Ok(there) if there.is_file() => Ok(true),
+        Ok(_) => Err(ErrorKind::InvalidInput.into()),
+        Err(error) if error.kind() == ErrorKind::NotFound => Ok(false),
+        Err(error) => Err(error),
+    }
+}
+
+// How many lines a file has, which is read into this piece.
+fn count_lines(file: &mut File, piece: &mut [u8]) -> io::Result<u64> {
     let mut lines = 0u64;
     for _ in 0..u64::MAX {
-        match file.read(&mut piece) {
+        match file.read(piece) {
             Ok(0) => return Ok(lines),
             Ok(count) => lines = lines.saturating_add(line_ends(&piece[..count]) as u64),
             Err(error) if error.kind() == ErrorKind::Interrupted => {}
