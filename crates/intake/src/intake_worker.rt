@@ -15,7 +15,7 @@ use crate::status_file::StatusFile;
 use crate::stop_file::StopFile;
 use crate::unknown_lines::UNKNOWN;
 use crate::unprinted::Unprinted;
-use disk_model::{Disk, TapeDirectory};
+use disk_model::{Disk, FileDisk, TapeDirectory, TapeFile};
 use feed_ends::{FeedEnd, FileError};
 use flusher::{IntakeShare, Naming, Pace, Post, PostFault, Receipt, Signals, Work};
 use funnel::PeerName;
@@ -117,17 +117,7 @@ impl<F: AllocGlobal + Files<File = File>, W: Write, N: Naming> IntakeWorker<'_, 
             if batch.count > 0 {
                 pace.lines_came(rt);
             }
-            self.order(signals, &batch, &mut ordered)?;
-            let most = if batch.is_last { 0 } else { AHEAD_MAX_BATCHES };
-            if !self.acknowledge(rt, signals, &mut ordered, most)? {
-                return Ok(());
-            }
-            self.print_due(rt)?;
-            if let Err(error) = self.tidy(rt, funnel) {
-                self.acknowledge(rt, signals, &mut ordered, 0)?;
-                return Err(error);
-            }
-            if batch.is_last {
+            if !self.finish_batch(rt, signals, funnel, &batch, &mut ordered)? {
                 return Ok(());
             }
             self.look_after(rt, post, funnel.path());
@@ -137,6 +127,28 @@ impl<F: AllocGlobal + Files<File = File>, W: Write, N: Naming> IntakeWorker<'_, 
             }
         }
         unreachable!()
+    }
+
+    // Orders a flush of this batch, waits until it may go on, and tidies the funnel. False if no line comes after it.
+    fn finish_batch<R: Wait + Clock + Log>(
+        &mut self,
+        rt: &R,
+        signals: &Signals,
+        funnel: &mut Funnel<'_, F>,
+        batch: &Batch,
+        ordered: &mut OrderedBatches,
+    ) -> Result<bool, RunError> {
+        self.order(signals, batch, ordered)?;
+        let most = if batch.is_last { 0 } else { AHEAD_MAX_BATCHES };
+        if !self.acknowledge(rt, signals, ordered, most)? {
+            return Ok(false);
+        }
+        self.print_due(rt)?;
+        if let Err(error) = self.tidy(rt, funnel) {
+            self.acknowledge(rt, signals, ordered, 0)?;
+            return Err(error);
+        }
+        Ok(!batch.is_last)
     }
 
     // Takes a batch of lines. It is not full if the funnel is silent, at its end or cannot be read on, or if no line
@@ -150,16 +162,29 @@ impl<F: AllocGlobal + Files<File = File>, W: Write, N: Naming> IntakeWorker<'_, 
         pause: u64,
     ) -> Result<Batch, RunError> {
         let ReadBatch { lines, is_last } = self.read_batch(rt, signals, funnel, pause)?;
+        match self.keep(rt, signals, lines)? {
+            Some(kept) => self.take_lines(rt, post, signals, &kept, is_last),
+            None => Ok(Batch {
+                count: 0,
+                last: 0,
+                is_last: true,
+            }),
+        }
+    }
+
+    // Takes these lines. `is_last` is whether no line comes after them.
+    fn take_lines<D: Disk, R: Wait>(
+        &mut self,
+        rt: &R,
+        post: &Post<D, N>,
+        signals: &Signals,
+        kept: &KeptLines,
+        is_last: bool,
+    ) -> Result<Batch, RunError> {
         let mut batch = Batch {
             count: 0,
             last: 0,
             is_last,
-        };
-        let Some(kept) = self.keep(rt, signals, lines)? else {
-            return Ok(Batch {
-                is_last: true,
-                ..batch
-            });
         };
         for line in kept.lines() {
             self.name_buffer(rt, line)?;
@@ -238,27 +263,25 @@ impl<F: AllocGlobal + Files<File = File>, W: Write, N: Naming> IntakeWorker<'_, 
             }
             Err(KeepFault::NoMemory) => Err(RunError::OutOfResources),
             Err(KeepFault::Disk) => {
-                let error = match self.keeper.lost() {
-                    Some(name) => RunError::tape(self.alloc, name.bytes(), TapeFault::Disk),
-                    None => RunError::OutOfResources,
-                };
-                error.add_to(&mut self.end);
-                signals.lose_tape();
+                self.lose_kept(signals);
                 Ok(None)
             }
         }
     }
 
+    // What no tape takes could not be kept for a peer that is left out.
+    fn lose_kept(&mut self, signals: &Signals) {
+        let error = match self.keeper.lost() {
+            Some(name) => RunError::tape(self.alloc, name.bytes(), TapeFault::Disk),
+            None => RunError::OutOfResources,
+        };
+        error.add_to(&mut self.end);
+        signals.lose_tape();
+    }
+
     // Opens the file of lines that name unknown peers, and makes its name durable.
     fn open_unknown<R: Log>(&mut self, rt: &R) {
-        let opened = match self.tapes.open(self.files, UNKNOWN) {
-            Ok(disk) => match self.tapes.sync() {
-                Ok(()) => Ok(disk),
-                Err(error) => Err(error),
-            },
-            Err(error) => Err(error),
-        };
-        match opened {
+        match self.try_open_unknown() {
             Ok(disk) => {
                 if self.keeper.open_unknown(disk).is_err() {
                     self.lose_unknown();
@@ -266,29 +289,25 @@ impl<F: AllocGlobal + Files<File = File>, W: Write, N: Naming> IntakeWorker<'_, 
             }
             Err(error) => {
                 self.keeper.close_unknown();
-                warn!(
-                    rt; "cannot open {}/{}: {}: lines that name unknown peers are only counted", self.directory,
-                    UNKNOWN, error
-                );
+                log_unopened(rt, self.directory, &error);
                 self.lose_unknown();
             }
         }
+    }
+
+    fn try_open_unknown(&self) -> io::Result<FileDisk<TapeFile>> {
+        let disk = self.tapes.open(self.files, UNKNOWN)?;
+        self.tapes.sync()?;
+        Ok(disk)
     }
 
     // Reports if not all lines that name unknown peers were kept, the first time.
     fn report_unknown<R: Log>(&mut self, rt: &R, kept: UnknownKept) {
         match kept {
             UnknownKept::All | UnknownKept::Closed => {}
-            UnknownKept::Full => {
-                warn!(
-                    rt; "{}/{}: unknown-limit is reached: further lines that name unknown peers are only counted",
-                    self.directory, UNKNOWN
-                );
-            }
+            UnknownKept::Full => log_full(rt, self.directory),
             UnknownKept::Failed => {
-                warn!(
-                    rt; "cannot write {}/{}: lines that name unknown peers are only counted", self.directory, UNKNOWN
-                );
+                log_unwritten(rt, self.directory);
                 self.lose_unknown();
             }
         }
@@ -358,18 +377,24 @@ impl<F: AllocGlobal + Files<File = File>, W: Write, N: Naming> IntakeWorker<'_, 
                     }
                 }
                 Err(fault) => {
-                    let is_lost = is_lost_tape(&fault);
-                    let error = RunError::post(self.alloc, self.names, fault);
-                    if !is_lost {
-                        return Err(error);
-                    }
-                    error.add_to(&mut self.end);
-                    signals.lose_tape();
+                    self.lose_tape(signals, fault)?;
                     return Ok(None);
                 }
             }
         }
         unreachable!()
+    }
+
+    // A line could not be taken. If a tape failed, this is signalled to the other threads.
+    fn lose_tape(&mut self, signals: &Signals, fault: PostFault) -> Result<(), RunError> {
+        let is_lost = is_lost_tape(&fault);
+        let error = RunError::post(self.alloc, self.names, fault);
+        if !is_lost {
+            return Err(error);
+        }
+        error.add_to(&mut self.end);
+        signals.lose_tape();
+        Ok(())
     }
 
     // Counts a line that was taken and goes nowhere.
@@ -613,4 +638,26 @@ impl<D: Disk, F: AllocGlobal + Files<File = File>, W: Write, N: Naming> Work<D, 
             }
         }
     }
+}
+
+// Logs that the file of lines that name unknown peers cannot be opened in the directory at this path.
+fn log_unopened<R: Log>(rt: &R, directory: &str, error: &io::Error) {
+    warn!(
+        rt; "cannot open {}/{}: {}: lines that name unknown peers are only counted", directory, UNKNOWN, error
+    );
+}
+
+// Logs that the file of lines that name unknown peers is full.
+fn log_full<R: Log>(rt: &R, directory: &str) {
+    warn!(
+        rt; "{}/{}: unknown-limit is reached: further lines that name unknown peers are only counted", directory,
+        UNKNOWN
+    );
+}
+
+// Logs that the file of lines that name unknown peers cannot be written.
+fn log_unwritten<R: Log>(rt: &R, directory: &str) {
+    warn!(
+        rt; "cannot write {}/{}: lines that name unknown peers are only counted", directory, UNKNOWN
+    );
 }
