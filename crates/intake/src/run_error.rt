@@ -69,12 +69,12 @@ impl RunError {
 
     /// The file at this path, of this tape, could not be opened.
     pub(crate) fn unopened(alloc: Global, name: &[u8], path: &[u8], reason: io::Error) -> Self {
-        if reason.kind() == ErrorKind::OutOfMemory {
+        let Some(path) = path_of(alloc, path, &reason) else {
             return RunError::OutOfResources;
-        }
-        match (Vec::from_slice(alloc, name), Vec::from_slice(alloc, path)) {
-            (Ok(name), Ok(path)) => RunError::Unopened { name, path, reason },
-            _ => RunError::OutOfResources,
+        };
+        match Vec::from_slice(alloc, name) {
+            Ok(name) => RunError::Unopened { name, path, reason },
+            Err(_) => RunError::OutOfResources,
         }
     }
 
@@ -109,18 +109,18 @@ impl RunError {
 
     /// The file at this path could not be written.
     pub(crate) fn unwritten(alloc: Global, path: &[u8], error: &io::Error) -> Self {
-        match (error.kind(), Vec::from_slice(alloc, path)) {
-            (ErrorKind::OutOfMemory, _) | (_, Err(_)) => RunError::OutOfResources,
-            (_, Ok(path)) => RunError::File(FileError::Unwritten(path)),
+        match path_of(alloc, path, error) {
+            Some(path) => RunError::File(FileError::Unwritten(path)),
+            None => RunError::OutOfResources,
         }
     }
 
     /// The file at this path could not be removed. Logs the reason.
     pub(crate) fn unremoved<R: Log>(rt: &R, alloc: Global, path: &[u8], error: &io::Error) -> Self {
         log_reason(rt, path, error);
-        match (error.kind(), Vec::from_slice(alloc, path)) {
-            (ErrorKind::OutOfMemory, _) | (_, Err(_)) => RunError::OutOfResources,
-            (_, Ok(path)) => RunError::File(FileError::Unremoved(path)),
+        match path_of(alloc, path, error) {
+            Some(path) => RunError::File(FileError::Unremoved(path)),
+            None => RunError::OutOfResources,
         }
     }
 
@@ -226,6 +226,14 @@ fn log_funnel_fault<R: Log>(rt: &R, path: &[u8], fault: &FunnelFault) {
         FunnelFault::FewLines(few) => warn!(rt; "{} {}", text_of(path), few),
         fault if fault.is_no_memory() => {}
         fault => warn!(rt; "{}: {}", text_of(path), fault),
+    }
+}
+
+// The path of the file to which this happened; None if memory was refused.
+fn path_of(alloc: Global, path: &[u8], error: &io::Error) -> Option<Vec<u8>> {
+    match error.kind() {
+        ErrorKind::OutOfMemory => None,
+        _ => Vec::from_slice(alloc, path).ok(),
     }
 }
 
