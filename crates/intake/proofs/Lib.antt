@@ -1,4 +1,5 @@
 mod Counts
+mod InOrder
 mod OneEach
 mod Stations
 mod TapeErrors

@@ -1,5 +1,5 @@
 // Importing the peers' backlog files before the work.
-ghost use Rattle.std.specs.Prelude.{IfOk};
+ghost use Rattle.std.specs.Prelude.{◌≡◌, IfOk, map};
 ghost use Rattle.std.specs.List.{All};
 ghost use Rattle.flusher.specs.Sealed.{IsFlushed};
 
@@ -63,8 +63,8 @@ fn report<R: Log>(
     Ok(())
 }
 
-/// These peers, with what pends at their stations put on the disks, so that each can be split. An import ends with a
-/// flush, so nothing pends, and no disk is called.
+/// These peers, in their order, with what pends at their stations put on the disks, so that each can be split. An
+/// import ends with a flush, so nothing pends, and no disk is called.
 ///
 /// # Errors
 /// The first tape that fails.
@@ -73,7 +73,9 @@ pub fn flush_stations<R: Log>(
     alloc: Global,
     peers: Vec<PostPeer<FileDisk<TapeFile>>>,
 ) -> Result<Vec<PostPeer<FileDisk<TapeFile>>>, RunError>
-    ensures { IfOk result (λ flushed. All (λ p. IsFlushed p.station) flushed.items) }
+    ensures flushed { IfOk result (λ flushed. All (λ p. IsFlushed p.station) flushed.items) }
+    ensures names { IfOk result
+        (λ flushed. map (λ p. p.name) flushed.items ≡ map (λ p. p.name) peers.items) }
 {
     let mut flushed = Vec::new(alloc);
     for peer in peers {
