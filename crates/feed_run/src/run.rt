@@ -617,18 +617,25 @@ fn run_workers<
         end: intake_end,
         ..
     } = intake;
-    match ended {
+    let mut articles = match ended {
         Ok((first, second, flusher)) => {
             let (first, second) = (first.worker, second.worker);
-            flusher.articles.report(env.rt, alloc, end);
             let faults = (flusher.fault, first.fault, second.fault);
             add_faults(alloc, &names, faults, intake_end, end);
             add_unread(first.unread, second.unread, end);
+            Some(flusher.articles)
         }
-        Err(NoThread) => RunError::OutOfResources.add_to(end),
-    }
+        Err(NoThread) => {
+            RunError::OutOfResources.add_to(end);
+            None
+        }
+    };
     tally.log(env.rt, &names);
-    close(env.rt, post, &names, (status, has_no_status), end);
+    let status = (status, has_no_status);
+    close(env.rt, post, &names, status, articles.as_mut(), end);
+    if let Some(articles) = articles {
+        articles.report(env.rt, end);
+    }
     let is_asked = stop.as_ref().is_some_and(|stop| stop.was_seen());
     if is_asked && end.tapes.is_empty() && !end.lacks_resources {
         log_end(env.rt, env.version, acknowledged);

@@ -1,13 +1,12 @@
 // Articles in buffers of CNFS, made durable before their lines are acknowledged, if the settings ask for that.
-ghost use Rattle.std.specs.Prelude.{◌≡◌, IfOk};
+ghost use Rattle.std.specs.Prelude.{◌≡◌, IfOk, IsErr, IsSome};
 
-use feed_ends::FeedEnd;
+use feed_ends::{FeedEnd, FileError};
 use flusher::{ArticleSync, SyncedLine, TakenLine, Unsynced};
 use innd_spool::BufferSync;
-use intake::{NamedBuffers, RunError};
+use intake::{NamedBuffers, RunError, log_reason};
 use log::Log;
-use std::alloc::Global;
-use std::io;
+use std::io::{self, ErrorKind};
 use std::sync::Wait;
 
 /// The buffers that are to be synced, by the list of them at this path; `None` if none is.
@@ -22,8 +21,9 @@ pub(crate) struct SyncedBuffers {
 pub(crate) struct SpoolSync<'a> {
     synced: SyncedBuffers,
     named: &'a NamedBuffers,
-    // Why a buffer could not be synced.
+    // Why a buffer could not be synced, and whether that was logged.
     fault: Option<io::Error>,
+    is_told: bool,
 }
 
 impl<'a> SpoolSync<'a> {
@@ -33,6 +33,7 @@ impl<'a> SpoolSync<'a> {
             synced,
             named,
             fault: None,
+            is_told: false,
         }
     }
 
@@ -44,18 +45,30 @@ impl<'a> SpoolSync<'a> {
         }
     }
 
-    /// Adds to `end`, and logs, why a buffer could not be synced, if that was so.
-    pub fn report<R: Log>(self, rt: &R, alloc: Global, end: &mut FeedEnd) {
-        if let Some(error) = self.fault {
-            RunError::unread(rt, alloc, &self.synced.path, &error).add_to(end);
+    /// Adds to `end` that a buffer could not be synced, if that was so.
+    pub fn report<R: Log>(self, rt: &R, end: &mut FeedEnd) {
+        let mut articles = self;
+        articles.tell(rt);
+        let SpoolSync { synced, fault, .. } = articles;
+        match fault {
+            None => {}
+            Some(error) if error.kind() == ErrorKind::OutOfMemory => {
+                RunError::OutOfResources.add_to(end);
+            }
+            Some(_) => RunError::File(FileError::Unread(synced.path)).add_to(end),
         }
     }
 }
 
 impl ArticleSync for SpoolSync<'_> {
-    fn sync<R: Wait + Log>(&mut self, rt: &R, last: TakenLine) -> Result<SyncedLine, Unsynced>
-        ensures { IfOk result (λ synced. synced.number ≡ last.number) }
+    fn sync<R: Wait>(&mut self, rt: &R, last: TakenLine) -> Result<SyncedLine, Unsynced>
+        ensures number { IfOk result (λ synced. synced.number ≡ last.number) }
+        ensures fails { IsErr result → IsSome self.new.fault }
+        ensures stays { IsSome self.old.fault → IsErr result }
     {
+        if self.fault.is_some() {
+            return Err(Unsynced);
+        }
         let Some(buffers) = &mut self.synced.buffers else {
             return Ok(SyncedLine::of(last));
         };
@@ -66,5 +79,14 @@ impl ArticleSync for SpoolSync<'_> {
             }
         }
         Ok(SyncedLine::of(last))
+    }
+
+    fn tell<R: Log>(&mut self, rt: &R) {
+        if let Some(error) = &self.fault
+            && !self.is_told
+        {
+            log_reason(rt, &self.synced.path, error);
+            self.is_told = true;
+        }
     }
 }

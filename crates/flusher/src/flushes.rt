@@ -89,12 +89,11 @@ impl<N: Naming, A: ArticleSync> Flusher<N, A> {
             self.shed_all(rt, post)?;
         }
         let begun = Instant::now(rt);
-        let last = post.last_taken(rt);
-        let Ok(last) = self.articles.sync(rt, last) else {
+        let Some(receipt) = post.flush_all(rt, pace, &mut self.articles)? else {
+            self.articles.tell(rt);
             signals.lose_tape();
-            return post.flush_working(rt, pace);
+            return Ok(());
         };
-        let receipt = post.flush_up_to(rt, pace, last)?;
         if let Ok(begun) = begun {
             log_slow(rt, begun);
         }

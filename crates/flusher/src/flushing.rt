@@ -1,11 +1,12 @@
 // What the flusher asks of a post.
-ghost use Rattle.std.specs.Prelude.{◌≡◌, ◌+◌, ◌<◌, ◌^◌, length, max, IfErr, IfOk, IsOk, OnOk};
+ghost use Rattle.std.specs.Prelude.{◌≡◌, ◌⊎◌, ◌+◌, ◌<◌, ◌^◌, length, max, IfErr, IfOk, IsOk, OnOk};
 ghost use Rattle.flusher.specs.Faults.{IsDiskFault, IsFlushAllFault, IsFlushWorkingFault, IsOfPeer, IsPartFault};
 ghost use Rattle.flusher.specs.Faults.{IsRotateAllFault, IsRoundFault, IsSealFault, IsWorkingFlushFault};
 ghost use Rattle.flusher.specs.Sealed.{IsSealed};
 ghost use Rattle.recovery.specs.Rotates.{RefusesRotation};
 ghost use Rattle.recovery.specs.Words.{IsDue, IsRotateFault, generation_of, ledger_of};
 
+use crate::article_sync::ArticleSync;
 use crate::pace::{Pace, Place, Who};
 use crate::post::Intake;
 use crate::sealing::{Due, Sealing, SyncedLine, TakenLine};
@@ -18,33 +19,44 @@ use recovery::TapeFault;
 use std::sync::Wait;
 
 impl<D: Disk, N: Naming> Post<D, N> {
-    /// The number up to which lines are acknowledged by a flush that begins now.
-    pub fn last_taken<R: Wait>(&self, rt: &R) -> TakenLine {
-        *self.last.lock(rt)
-    }
-
-    /// Puts all that pends on the disks, and acknowledges each line that was taken before, as [`Post::flush_up_to`]
-    /// does. It leaves articles to whoever keeps them.
-    ///
-    /// # Errors
-    /// Those of [`Post::flush_up_to`].
-    pub fn flush_all<P: Pace, R: Wait>(&self, rt: &R, pace: &P) -> Result<Receipt, PostFault>
-        ensures kinds { IfErr result (IsFlushAllFault (length self.now.names)) }
-    {
-        let last = self.last_taken(rt);
-        self.flush_up_to(rt, pace, SyncedLine::of(last))
-    }
-
     /// Puts all that pends on the disks: peer by peer in the order of their names, each in rounds until all is settled
-    /// that pended when its part began; and then, on the intake's tape, this number. If a tape has no room for what
+    /// that pended when its part began; and then, on the intake's tape, the number that the last line had before the
+    /// first flush, once `articles` has made the articles of all lines up to it durable. If a tape has no room for what
     /// pends, it is rewritten, the notes that pend included.
+    ///
+    /// `None` if an article may not be durable: then it does what [`Post::flush_working`] does, and no line is
+    /// acknowledged.
     ///
     /// # Errors
     /// A station's: `Broken`; `Tape(Disk)`, after which its front is broken, too; `Tape(TapeFull)` if what it owes is
     /// too long even for a rewritten tape, or if its tape has the greatest generation; `Tape(Note)`, which no run
     /// meets; `NoMemory`. `NoMemory` if the copy of a note found none. `Stranger`, which no run meets. Then the intake
     /// tape's.
-    pub fn flush_up_to<P: Pace, R: Wait>(
+    pub fn flush_all<A: ArticleSync, P: Pace, R: Wait>(
+        &self,
+        rt: &R,
+        pace: &P,
+        articles: &mut A,
+    ) -> Result<Option<Receipt>, PostFault>
+        ensures kinds { IfErr result (λ fault. IsFlushAllFault (length self.now.names) fault
+            ⊎ IsFlushWorkingFault (length self.now.names) fault) }
+    {
+        let last = self.last_taken(rt);
+        let Ok(last) = articles.sync(rt, last) else {
+            self.flush_working(rt, pace)?;
+            return Ok(None);
+        };
+        let receipt = self.flush_up_to(rt, pace, last)?;
+        Ok(Some(receipt))
+    }
+
+    // The line that was taken last.
+    fn last_taken<R: Wait>(&self, rt: &R) -> TakenLine {
+        *self.last.lock(rt)
+    }
+
+    // Puts all that pends on the disks, and then this number on the intake's tape.
+    fn flush_up_to<P: Pace, R: Wait>(
         &self,
         rt: &R,
         pace: &P,

@@ -4,7 +4,7 @@ use crate::status_file::StatusFile;
 use crate::stop_file::StopFile;
 use disk_model::Disk;
 use feed_ends::{FeedEnd, Owing, TapeError};
-use flusher::{Free, Naming, Post, PostFault};
+use flusher::{ArticleSync, Free, Naming, Post, PostFault};
 use funnel::PeerName;
 use log::{Log, warn};
 use std::alloc::AllocError;
@@ -16,16 +16,23 @@ use std::sync::Wait;
 /// Flushes what is still pending, writes the status file, and adds what is still owed. `is_reported` is whether it was
 /// reported before that the status file cannot be written. After a fault of a tape only the other tapes are flushed,
 /// and nothing is acknowledged; what the tape's peer is owed is not known, and not reported. Further tapes that failed
-/// are logged.
-pub fn close<D: Disk, N: Naming, R: Wait + Clock + Log, F: AllocGlobal + Files<File = File>>(
+/// are logged. Without `articles` nothing is acknowledged, either.
+pub fn close<
+    D: Disk,
+    N: Naming,
+    A: ArticleSync,
+    R: Wait + Clock + Log,
+    F: AllocGlobal + Files<File = File>,
+>(
     rt: &R,
     post: &Post<D, N>,
     names: &[PeerName],
     (status, is_reported): (StatusFile<'_, F>, bool),
+    articles: Option<&mut A>,
     end: &mut FeedEnd,
 ) {
     let mut status = status;
-    if let Err(fault) = flush(rt, post, end.tapes.is_empty()) {
+    if let Err(fault) = flush(rt, post, articles, end.tapes.is_empty()) {
         RunError::post(*end.tapes.allocator(), names, fault).add_to(end);
     }
     if let Err(error) = status.write(rt, post, names)
@@ -45,17 +52,21 @@ pub fn close<D: Disk, N: Naming, R: Wait + Clock + Log, F: AllocGlobal + Files<F
     }
 }
 
-// Flushes all tapes if none has failed, and otherwise those that have not.
-fn flush<D: Disk, N: Naming, R: Wait>(
+// Flushes all tapes if none has failed, and acknowledges lines once their articles are durable; otherwise, and without
+// `articles`, flushes those that work.
+fn flush<D: Disk, N: Naming, A: ArticleSync, R: Wait>(
     rt: &R,
     post: &Post<D, N>,
+    articles: Option<&mut A>,
     are_well: bool,
 ) -> Result<(), PostFault> {
-    if are_well {
-        post.flush_all(rt, &Free)?;
-        return Ok(());
+    match articles {
+        Some(articles) if are_well => {
+            post.flush_all(rt, &Free, articles)?;
+            Ok(())
+        }
+        _ => post.flush_working(rt, &Free),
     }
-    post.flush_working(rt, &Free)
 }
 
 // Logs that this peer's tape failed, unless that is reported as what ended the run.
