@@ -18,8 +18,7 @@
 # follow-innd, and $FILE_ARTICLES another file-articles. WAYS, such as WAYS='spool inns', names the ways to measure. If
 # the program does not know innd-spool, or file-articles is not built, what needs it is passed over.
 #
-# What it gave is in docs/MEASURED.md, "From one innd to another": by copies 0.79 s at the median. From innd's spool it
-# was not measured yet; the figures belong there, in the table, and in README.md in the row "innd to innd".
+# What it gave is in docs/MEASURED.md, "From one innd to another".
 . "$(dirname "$(readlink -f "${BASH_SOURCE[0]}")")/lib.sh"
 bin=/usr/lib/news/bin articles=${1:-500} burst=${2:-10000} chosen=("${@:3}")
 for program in "$bin/innd" "$bin/innfeed" /usr/bin/python3; do
