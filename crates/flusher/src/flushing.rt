@@ -1,5 +1,6 @@
 // What the flusher asks of a post.
-ghost use Rattle.std.specs.Prelude.{◌≡◌, ◌⊎◌, ◌+◌, ◌<◌, ◌^◌, length, max, IfErr, IfOk, IsOk, OnOk};
+ghost use Rattle.std.specs.Prelude.{◌≡◌, ◌⊎◌, ◌+◌, ◌<◌, ◌^◌};
+ghost use Rattle.std.specs.Prelude.{length, max, IfErr, IfOk, IsOk, OnOk};
 ghost use Rattle.flusher.specs.Faults.{IsDiskFault, IsFlushAllFault, IsFlushWorkingFault, IsOfPeer, IsPartFault};
 ghost use Rattle.flusher.specs.Faults.{IsRotateAllFault, IsRoundFault, IsSealFault, IsWorkingFlushFault};
 ghost use Rattle.flusher.specs.Sealed.{IsSealed};
