@@ -2,6 +2,7 @@
 ghost use Rattle.std.specs.Prelude.{◌≡◌, ◌≤◌, IfOk, length, true};
 ghost use Rattle.intake.specs.Ordered.{lasts_of};
 
+use crate::batch_wait::BatchWait;
 use crate::countdown::Countdown;
 use crate::keeping::LineKeeper;
 use crate::look_pace::LookPace;
@@ -201,7 +202,8 @@ impl<F: AllocGlobal + Files<File = File>, W: Write, N: Naming> IntakeWorker<'_, 
         Ok(batch)
     }
 
-    // Reads a batch of lines: none as long as no room is kept back.
+    // Reads a batch of lines: none as long as no room is kept back. If the funnel is followed, the first one waits only
+    // so long for the others.
     fn read_batch<R: Wait + Clock + Log>(
         &mut self,
         rt: &R,
@@ -221,9 +223,15 @@ impl<F: AllocGlobal + Files<File = File>, W: Write, N: Naming> IntakeWorker<'_, 
                 is_last: false,
             });
         }
+        let mut wait = BatchWait::new();
         for _ in 0..BATCH_MAX_LINES {
             match self.next_line(rt, signals, funnel) {
-                Next::Line(line) => lines.add(line, self.names)?,
+                Next::Line(line) => {
+                    lines.add(line, self.names)?;
+                    if self.stop.is_some() && wait.is_over(rt) {
+                        break;
+                    }
+                }
                 Next::Silence => break,
                 Next::Pause => {
                     if lines.len() == 0 {

@@ -8,6 +8,7 @@
 #![tactic(auto)]
 
 mod backlogs;
+mod batch_wait;
 mod closing;
 mod countdown;
 mod disks;
