@@ -1,7 +1,9 @@
 -- Texts that are read piece by piece.
 use Rattle.std.proofs.Common.{◌≡◌, ◌≤◌, ◌<◌, ◌+◌, ◌++◌, ℕ, List, Option, None, Some, IfSome, length, take, drop}
-use Rattle.std.proofs.Common.{sym, ap, subst, ◌∙◌, arith, append-nil, length-append, length-take}
-use Rattle.std.proofs.Math.Seq.{take-add}
+use Rattle.std.proofs.Common.{inl, inr, sym, ap, subst, ◌∙◌, arith, append-nil, length-take}
+use Rattle.std.proofs.Math.Seq.{take-add, take-append_seam}
+use Rattle.std.proofs.lemmas.Bool.{cases_lt}
+use Rattle.std.proofs.lemmas.List.{length-take-le, take_all}
 use Rattle.std.proofs.KnownBytes.{Consumes-kept, Consumes-trans}
 use Rattle.std.specs.Io.KnownBytes.{Consumes, IsAtEnd, Keeps}
 use Rattle.dot_codec.specs.Lines.{IsSendable}
@@ -28,25 +30,36 @@ pub kept_prefix : (a b c : Option (List ℕ)) (xs ys : List ℕ) (f : ℕ) → t
 kept_prefix a b c xs ys f prefix before kept =
     subst (Consumes a c) (sym prefix) (Consumes-kept a b c (take f xs) before kept)
 
--- what came before the reader's end is the text
-whole_text : (text prefix : List ℕ) (b : Option (List ℕ)) → Consumes (Some text) b prefix → IsAtEnd b → prefix ≡ text
-whole_text text prefix None p end = absurd p
-whole_text text prefix (Some rest) p end = sym (p ∙ ap (λ l. prefix ++ l) end ∙ append-nil prefix)
+-- what came, up to the text's end or as much as is read
+pub read_whole : (text rest : Option (List ℕ)) (xs : List ℕ) (f n : ℕ) → Consumes text rest (take f xs)
+    → f ≤ length xs → f ≤ n → (f < n → IsAtEnd rest) → IfSome text (λ octets. take f xs ≡ take n octets)
+read_whole None rest xs f n read within short end = tt
+read_whole (Some octets) None xs f n read within short end = absurd read
+read_whole (Some octets) (Some more) xs f n read within short end =
+    let front = take f xs in
+    let long : length front ≡ f = length-take-le f xs within in
+    elim (cases_lt f n) [
+      | inl less ↦
+          let same : octets ≡ front = read ∙ ap (λ l. front ++ l) (end less) ∙ append-nil front in
+          sym (ap (take n) same ∙ take_all n front (omega (arith, long)))
+      | inr full ↦
+          let all : length front ≡ n = omega (arith, long) in
+          sym (ap (take n) read ∙ ap (λ k. take k (front ++ more)) (sym all) ∙ take-append_seam front more)
+    ]
 
--- what came is no longer than the text
-no_longer : (text prefix : List ℕ) (b : Option (List ℕ)) → Consumes (Some text) b prefix → length prefix ≤ length text
-no_longer text prefix None p = absurd p
-no_longer text prefix (Some rest) p = omega (arith, ap length p, length-append prefix rest)
-
--- the text was read as it is: whole, or so much of it that it is too long
-pub read_as : (a b : Option (List ℕ)) (prefix : List ℕ) (found : Found) → Consumes a b prefix
-    → (length prefix < 16777217 → IsAtEnd b) → IsFound found → IsReadAs prefix found
-    → IfSome a (λ text. IsReadAs text found)
-read_as None b prefix found p end sendable judged = tt
-read_as (Some text) b prefix (Article read) p end sendable judged =
-    judged ∙ whole_text text prefix b p (end (omega (arith, sendable.short, ap length judged)))
-read_as (Some text) b prefix Gone p end sendable judged = absurd judged
-read_as (Some text) b prefix Unsendable p end sendable judged =
+-- The text was read as it is: whole, or so much of it that it is too long. (For any limit, since a list that ends at a
+-- large one is never to be computed.)
+pub read_as : (most : ℕ) → ((text : List ℕ) → IsSendable text → length text < most)
+    → (text : Option (List ℕ)) (front : List ℕ) (found : Found)
+    → IfSome text (λ octets. front ≡ take most octets) → IsFound found → IsReadAs front found
+    → IfSome text (λ octets. IsReadAs octets found)
+read_as most shorter None front found same sendable judged = tt
+read_as most shorter (Some octets) front (Article read) same sendable judged =
+    let short : length read < most = shorter read sendable in
+    let long = length-take most octets in
+    judged ∙ same ∙ take_all most octets (omega (arith, short, ap length judged, ap length same, long))
+read_as most shorter (Some octets) front Gone same sendable judged = absurd judged
+read_as most shorter (Some octets) front Unsendable same sendable judged =
     λ sent.
-    let shorter : length prefix < 16777217 = omega (arith, sent.short, no_longer text prefix b p) in
-    judged (subst IsSendable (sym (whole_text text prefix b p (end shorter))) sent)
+    let short : length octets < most = shorter octets sent in
+    judged (subst IsSendable (sym (same ∙ take_all most octets (omega (arith, short)))) sent)

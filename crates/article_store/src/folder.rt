@@ -1,12 +1,12 @@
 // A store of articles that are files below a directory.
-ghost use Rattle.std.specs.Prelude.{ℕ, ◌≡◌, ◌≢◌, ◌∷◌, [], ◌++◌, ◌+◌, ◌≤◌, ◌<◌};
-ghost use Rattle.std.specs.Prelude.{length, take, drop, string_bytes, IfOk, IfSome, OnOk, OnErr, Ok, Some};
-ghost use Rattle.std.specs.Io.KnownBytes.{Consumes, IsAtEnd, Keeps};
+ghost use Rattle.std.specs.Prelude.{◌≡◌, ◌≢◌, ◌∷◌, [], ◌++◌, string_bytes};
+ghost use Rattle.std.specs.Prelude.{IfOk, IfSome, Ok, Some};
 ghost use Rattle.article_store.specs.Causes.{cause_of};
 ghost use Rattle.article_store.specs.Finds.{IsFound};
 ghost use Rattle.article_store.specs.Paths.{root_of};
 ghost use Rattle.article_store.specs.Reads.{ConsumesAtMost, IsReadAs, answer_to};
 
+use crate::front::read_front;
 use crate::store::{Articles, Found, SpoolDirectory, StoreFault};
 use crate::unsendable::{Unsendable, unsendable_cause};
 use bytes::Bytes;
@@ -16,12 +16,6 @@ use std::fs::{self, File};
 use std::io::{self, ErrorKind, Read};
 use std::rt::Files;
 use std::str;
-
-// One octet more than the longest text that can be sent: a text of this length is not read further.
-const READ_MAX_OCTETS: usize = 16_777_217;
-
-// The room made for the first file, in octets; most articles fit.
-const FIRST_ROOM_OCTETS: usize = 65_536;
 
 /// Articles that are files below a directory: the text of a token is in the file whose path is the directory's, `/`
 /// and the token. Each fetch looks at, opens, reads and closes one file, and copies its text once. The path and the
@@ -158,7 +152,7 @@ fn read_judged<R: Read>(
     ensures whole { IfSome (R.remaining reader.old) (λ text. IfOk result (IsReadAs text)) }
     ensures limit { ConsumesAtMost 16777217 (R.remaining reader.old) (R.remaining reader.new) }
 {
-    let count = read_prefix(reader, buffer)?;
+    let count = read_front(reader, buffer)?;
     Ok(judge(alloc, &buffer[..count], cause)?)
 }
 
@@ -173,83 +167,6 @@ fn build_path<'p>(path: &'p mut String, root: &String, token: &Token) -> Result<
     path.push_str(root.as_str())?;
     path.push_str(name)?;
     Ok(path.as_str())
-}
-
-// Reads to the reader's end, but at most `READ_MAX_OCTETS`, into a prefix of the buffer, and returns how many octets
-// came.
-fn read_prefix<R: Read>(reader: &mut R, buffer: &mut Vec<u8>) -> io::Result<usize>
-    ensures within { IfOk result (λ count. count ≤ length buffer.new.items) }
-    ensures short { IfOk result (λ count. count ≤ 16777217) }
-    ensures gave { IfOk result (λ count.
-        Consumes (R.remaining reader.old) (R.remaining reader.new) (take count buffer.new.items)) }
-    ensures end { IfOk result (λ count. count < 16777217 → IsAtEnd (R.remaining reader.new)) }
-    ensures limit { ConsumesAtMost 16777217 (R.remaining reader.old) (R.remaining reader.new) }
-{
-    let mut filled = 0;
-    for _ in 0..u64::MAX {
-        if filled >= READ_MAX_OCTETS {
-            return Ok(filled);
-        }
-        match read_more(reader, buffer, filled) {
-            Ok(0) => return Ok(filled),
-            Ok(count) => filled += count,
-            Err(error) if error.kind() == ErrorKind::Interrupted => {}
-            Err(error) => return Err(error),
-        }
-    }
-    Err(io::Error::from(ErrorKind::TimedOut))
-}
-
-// One read after the octets that are filled. It returns how many came: 0 only at the reader's end.
-fn read_more<R: Read>(reader: &mut R, buffer: &mut Vec<u8>, filled: usize) -> io::Result<usize>
-    requires within { filled ≤ length buffer.old.items }
-    requires short { filled < 16777217 }
-    ensures prefix { take filled buffer.new.items ≡ take filled buffer.old.items }
-    ensures fits { IfOk result (λ count. filled + count ≤ length buffer.new.items) }
-    ensures most { IfOk result (λ count. filled + count ≤ 16777217) }
-    ensures gave { IfOk result (λ count. Consumes (R.remaining reader.old) (R.remaining reader.new)
-        (take count (drop filled buffer.new.items))) }
-    ensures end { IfOk result (λ count. count ≡ 0 → IsAtEnd (R.remaining reader.new)) }
-    ensures unchanged { OnErr result (Keeps (R.remaining reader.old) (R.remaining reader.new)) }
-{
-    if filled >= buffer.len() {
-        make_room(buffer)?;
-    }
-    let end = buffer.len().min(READ_MAX_OCTETS);
-    read_at(reader, buffer.as_mut_slice(), filled, end)
-}
-
-// One read into a part of a buffer that has room.
-fn read_at<R: Read>(
-    reader: &mut R,
-    buffer: &mut [u8],
-    start: usize,
-    end: usize,
-) -> io::Result<usize>
-    requires some { start < end }
-    requires within { end ≤ length buffer.old }
-    ensures prefix { take start buffer.new ≡ take start buffer.old }
-    ensures fits { IfOk result (λ count. start + count ≤ end) }
-    ensures gave { IfOk result (λ count. Consumes (R.remaining reader.old) (R.remaining reader.new)
-        (take count (drop start buffer.new))) }
-    ensures end { IfOk result (λ count. count ≡ 0 → IsAtEnd (R.remaining reader.new)) }
-    ensures unchanged { OnErr result (Keeps (R.remaining reader.old) (R.remaining reader.new)) }
-{
-    reader.read(&mut buffer[start..end])
-}
-
-// Doubles a buffer, up to `READ_MAX_OCTETS` octets.
-fn make_room(buffer: &mut Vec<u8>) -> Result<(), AllocError>
-    requires { length buffer.old.items < 16777217 }
-    ensures longer { OnOk result (length buffer.old.items < length buffer.new.items) }
-    ensures prefix { (count : ℕ) → count ≤ length buffer.old.items
-        → take count buffer.new.items ≡ take count buffer.old.items }
-{
-    let room = buffer
-        .len()
-        .saturating_mul(2)
-        .clamp(FIRST_ROOM_OCTETS, READ_MAX_OCTETS);
-    buffer.resize(room, 0)
 }
 
 // The text as an article if it can be sent; else `Unsendable`, with the cause.

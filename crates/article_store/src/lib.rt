@@ -9,11 +9,13 @@
 #![tactic(auto)]
 
 mod folder;
+mod front;
 mod mem;
 mod store;
 mod unsendable;
 
 pub use folder::{Folder, read_article};
+pub use front::read_front;
 pub use mem::MemArticles;
 pub use std::alloc::AllocError as NoMemory;
 pub use store::{Articles, Found, SpoolDirectory, StoreFault};

@@ -1,3 +1,2 @@
 pub mod Maps
 pub mod Moments
-pub mod Pieces

@@ -5,7 +5,7 @@ ghost use Rattle.std.specs.List.{list_any, slice_split};
 ghost use Rattle.innd_spool.specs.Files.{IsRead, is_absence, is_entry};
 
 use crate::faults::is_directory;
-use crate::room::read_front;
+use article_store::read_front;
 use std::alloc::AllocError;
 use std::fs::{self, File, Metadata};
 use std::io::{self, ErrorKind, Read};

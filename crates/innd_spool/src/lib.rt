@@ -17,7 +17,6 @@ mod faults;
 mod files;
 mod groups;
 mod looks;
-mod room;
 mod spool;
 mod texts;
 

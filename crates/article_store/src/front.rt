@@ -1,12 +1,13 @@
-// Files that are read into room which is kept.
+// The front of a file, read into room that is kept.
 ghost use Rattle.std.specs.Prelude.{ℕ, ◌≡◌, ◌≤◌, ◌<◌, ◌+◌, length, take, drop};
 ghost use Rattle.std.specs.Prelude.{IfOk, IfSome, OnOk, OnErr};
 ghost use Rattle.std.specs.Io.KnownBytes.{Consumes, IsAtEnd, Keeps};
+ghost use Rattle.article_store.specs.Reads.{ConsumesAtMost};
 
 use std::alloc::AllocError;
 use std::io::{self, ErrorKind, Read};
 
-// One octet more than the longest text that can be sent: a file of this length is not read further.
+// One octet more than the longest text that can be sent: a text of this length is not read further.
 const READ_MAX_OCTETS: usize = 16_777_217;
 
 // The room made for the first file, in octets; most articles fit.
@@ -16,11 +17,12 @@ const FIRST_ROOM_OCTETS: usize = 65_536;
 /// room only grows, and what is behind them stays as it is: it is set to zeros once, when it is made.
 ///
 /// # Errors
-/// The reader's error, but an interrupted read is tried again; that memory was refused.
-pub(crate) fn read_front<R: Read>(reader: &mut R, room: &mut Vec<u8>) -> io::Result<usize>
+/// The reader's error, but an interrupted read is tried again; [`ErrorKind::OutOfMemory`] if memory was refused.
+pub fn read_front<R: Read>(reader: &mut R, room: &mut Vec<u8>) -> io::Result<usize>
     ensures within { IfOk result (λ count. count ≤ length room.new.items) }
     ensures whole { IfOk result (λ count. IfSome (R.remaining reader.old)
         (λ octets. take count room.new.items ≡ take 16777217 octets)) }
+    ensures limit { ConsumesAtMost 16777217 (R.remaining reader.old) (R.remaining reader.new) }
 {
     let count = read_prefix(reader, room)?;
     Ok(count)
@@ -33,6 +35,7 @@ fn read_prefix<R: Read>(reader: &mut R, room: &mut Vec<u8>) -> io::Result<usize>
     ensures gave { IfOk result (λ count.
         Consumes (R.remaining reader.old) (R.remaining reader.new) (take count room.new.items)) }
     ensures end { IfOk result (λ count. count < 16777217 → IsAtEnd (R.remaining reader.new)) }
+    ensures limit { ConsumesAtMost 16777217 (R.remaining reader.old) (R.remaining reader.new) }
 {
     let mut filled = 0;
     for _ in 0..u64::MAX {

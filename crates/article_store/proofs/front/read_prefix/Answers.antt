@@ -1,6 +1,6 @@
 use Rattle.article_store.proofs.Pieces.{filled_more, prefix_within, kept_prefix}
-use Rattle.article_store.proofs.folder.read_prefix.Goals as goal
-use Rattle.article_store.proofs.folder.read_prefix.Goals.{in-Ok, in-Err}
+use Rattle.article_store.proofs.front.read_prefix.Goals as goal
+use Rattle.article_store.proofs.front.read_prefix.Goals.{in-Ok, in-Err}
 
 pub loop-preserved : goal.loop-preserved
 loop-preserved g c =

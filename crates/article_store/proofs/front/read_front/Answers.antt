@@ -1,6 +1,6 @@
 -- The reader's octets up to its end, or as many as are read.
-use Rattle.innd_spool.proofs.Pieces.{read_whole}
-use Rattle.innd_spool.proofs.room.read_front.Goals as goal
+use Rattle.article_store.proofs.Pieces.{read_whole}
+use Rattle.article_store.proofs.front.read_front.Goals as goal
 
 pub returns-clause-whole : goal.returns-clause-whole
 returns-clause-whole g c =
