@@ -117,7 +117,7 @@ wanted-code Block n e =
     (λ g. other-step (n == 437) _ Wanted _ (λ s. cc)
     (λ f. other-step (n == 436) _ Wanted _ (λ s. cc) (λ k. cc) f) g) e)
 
-block-code : (verb : Verb) (n : ℕ) → meaning verb n ≡ Some SendBlock → (verb ≡ Ihave) × (n ≡ 335)
+pub block-code : (verb : Verb) (n : ℕ) → meaning verb n ≡ Some SendBlock → (verb ≡ Ihave) × (n ≡ 335)
 block-code Check n e =
     absurd (other-step (n == 238) _ SendBlock _ (λ s. cc)
     (λ g. other-step (n == 431) _ SendBlock _ (λ s. cc)

@@ -13,3 +13,5 @@ mod PutOnce
 mod Receipts
 mod Causes
 mod Waiting
+mod OfDebts
+mod Served

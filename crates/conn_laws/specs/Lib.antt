@@ -1,1 +1,2 @@
+pub mod Articles
 pub mod Laws

@@ -9,6 +9,7 @@
 //! a crate that promises something of a whole exchange, and not of one call, cites these laws.
 #![tactic(auto)]
 
+pub mod articles;
 pub mod readings;
 
 ghost use Rattle.std.specs.Prelude.{◌≡◌, ◌↔◌, ◌+◌, ◌≤◌, ◌<◌, ◌++◌, ℕ, List, Option};
