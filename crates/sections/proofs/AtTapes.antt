@@ -1,5 +1,5 @@
 -- What each call, a stop and an opening make of a tape.
-use Rattle.std.proofs.Common.{◌≡◌, ℕ, ◌≤◌, Bool, List, [], ◌∷◌, length}
+use Rattle.std.proofs.Common.{◌≡◌, ◌≤◌, Bool, [], ◌∷◌, length}
 use Rattle.std.proofs.Common.{refl, sym, ap, subst, inl, inr, arith}
 use Rattle.ledger_core.specs.declared.note.Note.{Note}
 use Rattle.ledger_core.specs.State.{State}
@@ -11,9 +11,9 @@ use Rattle.recovery.specs.PairLaws.{pairs-now}
 use Rattle.recovery.specs.Pairs.LeavesPair.{at_start}
 use Rattle.sections.specs.Laws.{LeavesOver}
 use Rattle.sections.specs.ListLaws.{length_more, length_taken}
-use Rattle.sections.specs.Sections.{Call, IsReopened, IsStopped, OfTape, WasLeft}
+use Rattle.sections.specs.Sections.{Call, IsReopened, IsStopped, OfTape}
 use Rattle.sections.specs.Sections.OfTape.{Is_cut, Is_put, Is_read, Is_tried}
-use Rattle.sections.specs.TapeLaws.{prefix_more, tape_flushed, tape_noted, tape_opened, tape_same}
+use Rattle.sections.specs.TapeLaws.{left_safe, prefix_more, tape_flushed, tape_noted, tape_opened, tape_same}
 use Rattle.sections.specs.Tapes.{StaysAcknowledged, TapePast}
 
 abbrev pub IsWithin : TapePast → Type 0
@@ -111,13 +111,6 @@ noted_keeps was note within = record {
 }
 
 -- ---- a stop, and an opening
-
--- what a stop left is one image
-left_safe : (P : State → Type 0) (old new : Log) → WasLeft old new → EachLedger P old → EachLedger P new
-left_safe P old new left each =
-    subst (EachLedger P) (sym left.all) (λ one other is is'.
-    subst (λ (c : List ℕ). HasLedger P (c, other)) (sym is)
-    (subst (λ (d : List ℕ). HasLedger P (left.one, d)) (sym is') (each left.one left.other left.first left.second)))
 
 pub stopped_keeps : (was now : TapePast) → IsWithin was → IsStopped was now → KeepsNotesOf was now
 stopped_keeps was now within stops =

@@ -5,3 +5,5 @@ pub mod OverRuns
 pub mod Lines
 pub mod FunnelLines
 pub mod Rows
+pub mod FunnelRows
+pub mod FlushRows

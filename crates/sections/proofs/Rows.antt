@@ -16,7 +16,7 @@ use Rattle.sections.specs.Funnel.{Feeds, Funnel, HasTaken, IsEmpty, IsFed, IsFed
 use Rattle.sections.specs.Funnel.Feeds.{Begin, Then}
 use Rattle.sections.specs.Laws.{AllAreRecovered, IsBegun}
 use Rattle.sections.specs.Post.{PostPast, SealingPast, StationPast, with_station}
-use Rattle.sections.specs.Sections.{IsReopened, IsStopped, Runs, Section, begun_at, opened}
+use Rattle.sections.specs.Sections.{IsReopened, IsStopped, Lost_power, Runs, Section, begun_at, opened}
 use Rattle.sections.specs.Sections.Does.{At_station, Intake_is_opened, Is_begun, Is_counted, Is_due}
 use Rattle.sections.specs.Sections.Does.{Is_shown, Is_stopped, Was_sealed}
 use Rattle.sections.specs.Sections.OfStation.{Is_noted, Is_opened, Is_pulled, Is_sent}
@@ -101,7 +101,7 @@ left_of tape = record tape { log = (Made [] ∷ [], Made [] ∷ []) }
 stops : (history : History)
     → IsStopped (record tape { history = history }) (left_of (record tape { history = history }))
 stops history = record {
-  left = record { one = []; other = []; first = refl; second = refl; all = refl };
+  left = record { first = Lost_power [] refl; second = Lost_power [] refl };
   all = refl;
 }
 

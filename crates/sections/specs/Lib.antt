@@ -1,6 +1,8 @@
 pub mod ListLaws
 pub mod Tapes
 pub mod TapeLaws
+pub mod WrittenTapes
+pub mod WorkedTapes
 pub mod Post
 pub mod Sections
 pub mod Sound

@@ -3,7 +3,7 @@
 use Rattle.std.specs.Prelude.{◌≡◌, ◌+◌, ◌≤◌, ℕ, true, false, max, Bool, Some, None, List, [], ◌∷◌, ◌++◌, length}
 use Rattle.std.specs.Prelude.{slice_get}
 use Rattle.std.specs.List.{AllZip}
-use Rattle.disk_model.specs.Disk.{Image}
+use Rattle.disk_model.specs.Disk.{Event, Image}
 use Rattle.disk_model.specs.Disk.Event.{Made}
 use Rattle.ledger_core.specs.declared.note.Note.{Note}
 use Rattle.ledger_core.specs.declared.note.Note.TheVariants.{Seen}
@@ -76,13 +76,17 @@ pub data OfTape (was : TapePast) : Bool → Call → TapePast → Type 0 where
   Is_read : (tape : TapePast) → IsReadTape was tape → OfTape was true Reads tape
   Is_tried : (tape : TapePast) → IsTried was tape → OfTape was false Tries tape
 
--- a stop left images of the disks of the first log, and nothing has happened since
+-- What a stop leaves of a disk to which this has happened. If the power failed, it is one of the images, whichever, and
+-- nothing has happened since. If only the process ended, it is all that has happened: that syncs nothing, so that a
+-- later stop may still leave any image.
+pub data LeftOf (log : List Event) : List Event → Type 0 where
+  Lost_power : (octets : List ℕ) → Image log octets → LeftOf log (Made octets ∷ [])
+  Was_killed : LeftOf log log
+
+-- what a stop leaves of the two disks of a tape, of each by itself
 pub record WasLeft (old new : Log) : Type 0 where
-  pub one : List ℕ
-  pub other : List ℕ
-  pub first : Image old.0 one
-  pub second : Image old.1 other
-  pub all : new ≡ (Made one ∷ [], Made other ∷ [])
+  pub first : LeftOf old.0 new.0
+  pub second : LeftOf old.1 new.1
 
 -- a tape that has stopped: any of its pending notes may be on its disks
 pub record IsStopped (old new : TapePast) : Type 0 where

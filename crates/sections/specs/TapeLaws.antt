@@ -6,6 +6,7 @@ use Rattle.std.specs.Prelude.{◌==◌, Contains, if◌then◌else◌}
 use Rattle.std.proofs.lemmas.Bool.{cases_eq, eqb-true, le-ltb, lt-ltb}
 use Rattle.std.proofs.Math.Seq.{take-length}
 use Rattle.std.specs.List.{AllByRecursion, slice_get}
+use Rattle.disk_model.specs.Disk.{Event, Image}
 use Rattle.ledger_core.specs.declared.note.Note.{Note}
 use Rattle.ledger_core.specs.declared.note.Note.TheVariants.{Owe, Final, Drop, Seen, Closed}
 use Rattle.ledger_core.specs.State.{AllLegal, IsNext, Owing, State, after, keys, marks_of, start, step, with_debt}
@@ -13,11 +14,12 @@ use Rattle.ledger_core.specs.State.{without}
 use Rattle.ledger_core.specs.StateLaws.{AllLegal-back, Put, after-append, next-apart, put}
 use Rattle.ledger_core.specs.Written.{IsWhole}
 use Rattle.ledger_core.specs.WrittenLaws.{whole-start, whole-step}
-use Rattle.recovery.specs.Image.{IsTape}
+use Rattle.recovery.specs.Image.{IsTape, Log}
 use Rattle.recovery.specs.Leaving.{EachLedger, HasLedger, IsPrefix, mark_of, pending_notes}
 use Rattle.recovery.specs.Notes.{AreLegal, History, begun, flushed, noted_all, recovered}
 use Rattle.sections.specs.ListLaws.{all_weaker, contains_first, contains_here, contains_more, contains_put}
 use Rattle.sections.specs.ListLaws.{contains_taken, get_below, get_left, get_taken, length_more, take_first}
+use Rattle.sections.specs.Sections.{LeftOf, Lost_power, Was_killed, WasLeft}
 use Rattle.sections.specs.Tapes.{HasEnd, IsAbove, KeepsLinesOf, OwesOrEnded, PendsAbove, StaysAcknowledged, StillOwes}
 use Rattle.sections.specs.Tapes.{TapePast}
 
@@ -353,3 +355,15 @@ no_notes = record {
   legal = record { whole = whole-start; notes_are = tt; legal = tt };
   is = refl;
 }
+
+-- ---- a stop
+
+-- whatever a stop may leave of a disk after a stop, it might have left before
+image_back : (old new : List Event) → LeftOf old new → (c : List ℕ) → Image new c → Image old c
+image_back old _ (Lost_power octets is) c at = subst (Image old) (sym at) is
+image_back old _ Was_killed c at = at
+
+-- so what held of each ledger that it might have left holds of each that it may leave
+pub left_safe : (P : State → Type 0) (old new : Log) → WasLeft old new → EachLedger P old → EachLedger P new
+left_safe P old new left each = λ one other is is'.
+    each one other (image_back old.0 new.0 left.first one is) (image_back old.1 new.1 left.second other is')
