@@ -3,6 +3,7 @@ use Rattle.std.specs.Prelude.{ℕ, List, [], ◌∷◌, ◌++◌, codes, decimal
 use Rattle.drill.specs.Words.{why_words}
 use Rattle.drill.specs.declared.ending.Refusal.{Refusal}
 use Rattle.drill.specs.declared.ending.TapeRefusal.{TapeRefusal}
+use Rattle.drill_script.specs.DiskName.{tape_word}
 use Rattle.feed_conf.specs.Faults.{conf_fault_name}
 use Rattle.feed_conf.specs.declared.fault.ConfFault.{ConfFault}
 use Rattle.cli.specs.FeedLines.{failed_text}
@@ -16,9 +17,9 @@ abbrev pub refusal_text : List ℕ → Refusal → List ℕ
 refusal_text source refusal =
     source ++ codes ": line " ++ decimal refusal.line ++ codes ": " ++ why_words refusal.why ++ 10 ∷ []
 
--- the tape of a peer of a script that was refused
+-- the tape of a peer of a script that was refused, or of its intake
 abbrev pub no_tape_text : TapeRefusal → List ℕ
-no_tape_text refusal = failed_text refusal.peer refusal.fault
+no_tape_text refusal = failed_text (tape_word refusal.peer) refusal.fault
 
 -- a file that cannot be read
 abbrev pub unread_text : List ℕ → List ℕ

@@ -41,7 +41,7 @@ pub enum OrderFault<'a> {
         refusal: Refusal,
         more: Vec<u8>,
     },
-    /// The tape of a peer of a script was refused.
+    /// The tape of a peer of a script, or of its intake, was refused.
     NoTape(TapeRefusal),
     /// The file at this path cannot be read, for this reason.
     Unread(&'a str, io::Error),
@@ -196,7 +196,11 @@ fn no_tape_line(alloc: Global, refusal: &TapeRefusal) -> Result<Vec<u8>, AllocEr
     ensures { IfOk result (λ line. line.items ≡ no_tape_text refusal.now) }
 {
     let mut line = Vec::new(alloc);
-    add_tape_line(&mut line, refusal.peer.bytes(), refusal.fault)?;
+    let name = match &refusal.peer {
+        Some(name) => name.bytes(),
+        None => b"~intake".as_slice(),
+    };
+    add_tape_line(&mut line, name, refusal.fault)?;
     Ok(line)
 }
 

@@ -6,7 +6,7 @@ use Rattle.std.proofs.lemmas.Option.{slice_get-get_or, slice_get_within}
 use Rattle.ledger_core.specs.declared.ledger.Totals.{Totals}
 use Rattle.drill_script.specs.Script.{IsScript}
 use Rattle.drill_script.specs.declared.read.Script.{Script}
-use Rattle.world_core.specs.Given.{BeginsFrom, RefusesTapes}
+use Rattle.world_core.specs.Given.{BeginsFromDisks, RefusesDisks}
 use Rattle.world_core.specs.Stands.{Ends, Reports, HadNoRoom, WasRefused as RunRefused}
 use Rattle.world_core.specs.Output.{View, views_by}
 use Rattle.world_core.specs.declared.fault.Fault.{Fault}
@@ -18,20 +18,20 @@ use Rattle.world_core.specs.declared.fault.TapesFault.TheVariants.{Tape as TapeO
 use Rattle.world_core.specs.declared.fault.WorldFault.{WorldFault}
 use Rattle.world_core.specs.declared.step.Step.{Step}
 use Rattle.world_core.specs.declared.world.World.{World}
-use Rattle.drill.specs.Drill.{IsBegun, IsDrill, IsPlayed, WasRefused, WasTaken, ending_without, line_of}
+use Rattle.drill.specs.Drill.{IsBegunBy, IsDrill, IsPlayed, WasRefused, WasTaken, ending_without, line_of}
 use Rattle.drill.specs.Printed.{end_text, refused_text, steps_text, totals_text}
 use Rattle.drill.specs.declared.ending.Ending.{Ending}
 use Rattle.drill.specs.declared.ending.Ending.TheVariants.{Done, Refused, NoMemory as NoMemoryLeft}
 use Rattle.drill.specs.declared.ending.Why.TheVariants.{Step as ByStep}
 use Rattle.drill.specs.declared.play.Played.{Played}
 
-begun_of : (script : Script) (world : World) → (b : BeginsFrom script.peers.items world) →
-    IsBegun script.peers.items b.life
+begun_of : (script : Script) (world : World) → (b : BeginsFromDisks script.peers.items script.intake world) →
+    IsBegunBy script b.life
 begun_of script world b = record { ordered = b.ordered; permuted = b.permuted; rises = b.rises; fresh = b.fresh }
 
 -- all steps were taken
 pub taken_played : (script : Script) (world later : World) (lines : List (List View)) (counts : List (List ℕ × Totals))
-    (printed : List ℕ) (ending : Ending) → BeginsFrom script.peers.items world →
+    (printed : List ℕ) (ending : Ending) → BeginsFromDisks script.peers.items script.intake world →
     Reports script.steps.items world lines counts later →
     printed ≡ steps_text lines ++ (flat_map totals_text counts ++ end_text (length script.steps.items)) →
     ending ≡ Done → IsPlayed script printed ending
@@ -84,7 +84,7 @@ fails_played script printed line NotFlushed ending fails ends =
 
 -- no world was made
 pub unmade_played : (script : Script) (fault : TapesFault) (printed : List ℕ) (ending : Ending) →
-    RefusesTapes script.peers.items fault → printed ≡ [] → ending ≡ ending_without fault →
+    RefusesDisks script.peers.items script.intake fault → printed ≡ [] → ending ≡ ending_without fault →
     IsPlayed script printed ending
 unmade_played script (TapeOf peer fault) printed ending refused none ends =
     subst (IsPlayed script printed) (sym ends) (none, refused)
@@ -93,7 +93,7 @@ unmade_played script NoTapesMemory printed ending refused none ends =
 
 -- a step was refused
 module _ (script : Script) (world later : World) (fault : WorldFault) (printed : List ℕ)
-    (b : BeginsFrom script.peers.items world)
+    (b : BeginsFromDisks script.peers.items script.intake world)
     (placed : length script.lines.items ≡ length script.steps.items)
     (prints : printed ≡ steps_text (views_by fault.lines.items) ++ refused_text fault.step fault.kind) where
   line_told : (index : ℕ) → fault.step ≡ index + 1 →
@@ -146,7 +146,7 @@ module _ (script : Script) (world later : World) (fault : WorldFault) (printed :
 -- what is printed for a step that was refused
 pub stopped_told : {E : Type 0} (script : Script) (world later : World) (fault : WorldFault) (answer : Result Played E)
     (steps : List Step) (lines : List ℕ) → steps ≡ script.steps.items → lines ≡ script.lines.items →
-    BeginsFrom script.peers.items world → Ends steps world fault later →
+    BeginsFromDisks script.peers.items script.intake world → Ends steps world fault later →
     length script.lines.items ≡ length script.steps.items →
     IfOk answer (λ (p : Played). p.printed.items
     ≡ steps_text (views_by fault.lines.items) ++ refused_text fault.step fault.kind) →

@@ -1,12 +1,13 @@
 -- A text, played as a drill: what is printed, and how it ends (docs/FORMATS.md).
 use Rattle.std.specs.Prelude.{◌≡◌, ◌≢◌, ◌⊎◌, ◌+◌, slice_index_or, ℕ, zero, suc, Option, Some, List, [], ◌++◌}
-use Rattle.std.specs.Prelude.{flat_map, length, slice_get, take, IfSome}
+use Rattle.std.specs.Prelude.{flat_map, length, map, slice_get, take, IfSome}
 use Rattle.std.specs.Io.KnownBytes.{Appends, Keeps}
 use Rattle.std.specs.List.Sorted.{IsPermutation}
 use Rattle.drill_script.specs.Script.{BreaksAt, IsScript}
 use Rattle.drill_script.specs.declared.fault.BrokenRule.{BrokenRule}
 use Rattle.drill_script.specs.declared.read.Script.{Script}
-use Rattle.world_core.specs.Given.{GivenPeer, IsGiven, RefusesFirst, given_names}
+use Rattle.recovery.specs.Image.{Octets}
+use Rattle.world_core.specs.Given.{GivenTape, IsGiven, RefusesDisks, both_disks, octets_of, tape_names}
 use Rattle.world_core.specs.Past.{Life}
 use Rattle.world_core.specs.Runs.{RefusesStep, Runs}
 use Rattle.world_core.specs.Safe.{IsSafe}
@@ -25,18 +26,22 @@ use Rattle.drill.specs.declared.ending.TapeRefusal.{TapeRefusal}
 use Rattle.drill.specs.declared.ending.Why.{Why}
 use Rattle.drill.specs.declared.ending.Why.TheVariants.{Script as ByScript, Step as ByStep}
 
--- a new world of these peers, in byte order of their names: it begins from their tapes, and it runs
-pub record IsBegun (peers : List GivenPeer) (life : Life) : Type 0 where
-  pub ordered : List GivenPeer
+-- a new world of these peers, in byte order of their names: it begins from their tapes and the intake's, and it runs
+pub record IsBegun (peers : List GivenTape) (intake : Octets) (life : Life) : Type 0 where
+  pub ordered : List GivenTape
   pub permuted : IsPermutation peers ordered
-  pub rises : NamesRise (given_names ordered)
-  pub fresh : IsGiven ordered life
+  pub rises : NamesRise (tape_names ordered)
+  pub fresh : IsGiven ordered intake life
+
+-- the same of a script's peers and tapes
+abbrev pub IsBegunBy : Script → Life → Type 0
+IsBegunBy script life = IsBegun (map both_disks script.peers.items) (octets_of script.intake) life
 
 -- All steps were taken: what each of them outputs is printed, a line for each, then each peer's counts, and how many
 -- steps there were.
 pub record WasTaken (script : Script) (printed : List ℕ) : Type 0 where
   pub begun : Life
-  pub begins : IsBegun script.peers.items begun
+  pub begins : IsBegunBy script begun
   pub lines : List (List View)
   pub later : Life
   pub runs : Runs begun script.steps.items lines later
@@ -47,7 +52,7 @@ pub record WasTaken (script : Script) (printed : List ℕ) : Type 0 where
 -- then the refusal.
 pub record WasRefused (script : Script) (printed : List ℕ) (line : ℕ) (fault : Fault) : Type 0 where
   pub begun : Life
-  pub begins : IsBegun script.peers.items begun
+  pub begins : IsBegunBy script begun
   pub index : ℕ
   pub step : Step
   pub here : slice_get script.steps.items index ≡ Some step
@@ -71,9 +76,11 @@ abbrev pub EndsAt : Script → (printed : List ℕ) → (line : ℕ) → Why →
 EndsAt script printed line (ByScript reason) = ⊥
 EndsAt script printed line (ByStep fault) = (fault ≢ NoMemory) × WasRefused script printed line fault
 
--- Among the peers' tapes, in byte order of the names, this is the first that was refused: nothing is printed.
+-- Among the peers' tapes, in byte order of the names, and then the intake's, this is the first that was refused: nothing
+-- is printed.
 abbrev pub HasNoTape : Script → (printed : List ℕ) → TapeRefusal → Type 0
-HasNoTape script printed refusal = (printed ≡ []) × RefusesFirst script.peers.items refusal.peer refusal.fault
+HasNoTape script printed refusal =
+    (printed ≡ []) × RefusesDisks script.peers.items script.intake (TapeOf refusal.peer refusal.fault)
 
 -- A script was played: it printed this and ended like this.
 abbrev pub IsPlayed : Script → (printed : List ℕ) → Ending → Type 0

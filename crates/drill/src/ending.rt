@@ -14,17 +14,18 @@ pub enum Ending {
     Done,
     /// The script breaks its rules, or a step of it was refused.
     Refused(Refusal),
-    /// The tape of a peer was refused before the first step.
+    /// A tape was refused before the first step.
     NoTape(TapeRefusal),
     /// Memory was refused.
     NoMemory,
 }
 
-/// Which peer's tape was refused, and why.
+/// Which tape was refused, and why.
 #[derive(Drop)]
 pub struct TapeRefusal {
-    /// The peer whose tape was refused; if there are several, the first in byte order of the names.
-    pub peer: PeerName,
+    /// The peer whose tape was refused; if there are several, the first in byte order of the names. `None` if it was
+    /// the intake's, which comes after those of all peers.
+    pub peer: Option<PeerName>,
     /// Why it was refused: `Damaged` if what the script gives is not a tape, or `Disk` if a disk in memory was
     /// refused memory.
     pub fault: TapeFault,

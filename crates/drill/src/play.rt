@@ -2,7 +2,7 @@
 ghost use Rattle.std.specs.Prelude.{◌≡◌, ◌≢◌, ◌++◌, [], flat_map, length, IfOk};
 ghost use Rattle.std.specs.List.{IsDistinct};
 ghost use Rattle.std.specs.Str.{bytes_eq};
-ghost use Rattle.world_core.specs.Given.{given_names};
+ghost use Rattle.world_core.specs.Given.{disks_names};
 ghost use Rattle.world_core.specs.Stands.{counts_in};
 ghost use Rattle.world_core.specs.Output.{views_by};
 ghost use Rattle.drill.specs.Drill.{IsDrill, IsPlayed, ending_without, line_of};
@@ -43,18 +43,19 @@ pub fn play(alloc: Global, text: &[u8]) -> Result<Played, AllocError>
     }
 }
 
-// Takes a script's steps in a world that begins from its peers' tapes.
+// Takes a script's steps in a world that begins from its tapes.
 fn play_script(alloc: Global, script: Script) -> Result<Played, AllocError>
-    requires distinct { IsDistinct bytes_eq (given_names script.peers.items) }
+    requires distinct { IsDistinct bytes_eq (disks_names script.peers.items) }
     requires placed { length script.lines.items ≡ length script.steps.items }
     ensures { IfOk result (λ played. IsPlayed script played.printed.items played.ending) }
 {
     let Script {
         peers,
+        intake,
         steps,
         lines,
     } = script;
-    let mut world = match World::with_tapes(alloc, peers) {
+    let mut world = match World::with_disks(alloc, peers, intake) {
         Ok(world) => world,
         Err(fault) => return Ok(not_begun(alloc, fault)),
     };

@@ -14,7 +14,7 @@ use Rattle.feed_conf.specs.declared.conf.PeerConf.{PeerConf}
 use Rattle.drill_script.specs.Line.{SentenceView}
 use Rattle.drill_script.specs.Script.{IsScript, KeepsOrder, confs_of, names_of, peers_of}
 use Rattle.drill_script.specs.declared.read.Script.{Script}
-use Rattle.world_core.specs.Given.{GivenPeer, given_names}
+use Rattle.world_core.specs.Given.{GivenDisks, disks_names}
 use Rattle.drill_script.proofs.Growing.{HasDistinct, names_of-append, one_more}
 
 order_differ : (earlier later : List SentenceView) → HasDistinct (names_of earlier) → KeepsOrder earlier later →
@@ -41,7 +41,7 @@ permuted_differ names others permuted d = IsDistinct-IsPermutation bytes_eq same
 
 -- the names of a script's peers are distinct
 pub names_differ : (text : List ℕ) (script : Script) → IsScript text script →
-    HasDistinct (given_names script.peers.items)
+    HasDistinct (disks_names script.peers.items)
 names_differ text script is =
     let holds = is.2 in
     let peers = script.peers.items in
@@ -50,4 +50,4 @@ names_differ text script is =
     IsPermutation-map (λ (p : Settings). p.name) (peers_of is.0) (map settings_view (confs_of peers)) holds.peers in
     let all = permuted_differ (names_of is.0) _ moved start in
     subst HasDistinct (map-map (λ (p : Settings). p.name) settings_view (confs_of peers)
-    ∙ map-map (λ (conf : PeerConf). conf.name) (λ (given : GivenPeer). given.0) peers) all
+    ∙ map-map (λ (conf : PeerConf). conf.name) (λ (given : GivenDisks). given.0) peers) all

@@ -1,6 +1,8 @@
 -- The tapes that a draft holds, by the names of their peers.
-use Rattle.std.proofs.Common.{◌≡◌, ◌≢◌, ◌+◌, ◌<◌, ◌≤◌, ℕ, true, false, List, [], ◌∷◌, length, get_or, Option, None}
+use Rattle.std.proofs.Common.{◌≡◌, ◌≢◌, ◌+◌, ◌<◌, ◌≤◌, ℕ, Bool, true}
+use Rattle.std.proofs.Common.{false, List, [], ◌∷◌, length, get_or, Option, None}
 use Rattle.std.proofs.Common.{Some, refl, sym, ap, ◌∙◌, arith}
+use Rattle.std.specs.Bool.{Decides}
 use Rattle.std.specs.List.{All, AllZip}
 use Rattle.std.specs.Prelude.{is_some, option_map, unwrap_or}
 use Rattle.std.specs.BTreeMap.{BTreeMap}
@@ -17,10 +19,13 @@ use Rattle.std.proofs.lemmas.Map.Keys.{apart_from_distinct}
 use Rattle.std.proofs.lemmas.Map.Text.{is_eq-slice_cmp}
 use Rattle.std.proofs.lemmas.Slice.Eq.{bytes_eq-Decides}
 use Rattle.feed_conf.specs.declared.conf.PeerConf.{PeerConf}
-use Rattle.drill_script.specs.Draft.{IsGiven, held_at}
+use Rattle.drill_script.specs.Draft.{IsGiven, held_at, held_by}
 use Rattle.drill_script.specs.Line.{SentenceView}
-use Rattle.drill_script.specs.Script.{HoldsTape, confs_of, tape_of}
-use Rattle.world_core.specs.Given.{GivenPeer}
+use Rattle.drill_script.specs.Script.{HoldsTape, confs_of, held_of, octets_in}
+use Rattle.drill_script.specs.declared.disk_name.TapeDisk.{TapeDisk}
+use Rattle.drill_script.specs.declared.draft.GivenOctets.{GivenOctets}
+use Rattle.drill_script.specs.declared.disk_name.TapeDisk.TheVariants.{First, Second}
+use Rattle.world_core.specs.Given.{GivenDisks}
 use Rattle.drill_script.proofs.Growing.{HasDistinct}
 use Rattle.drill_script.proofs.Names.{Octets}
 
@@ -51,16 +56,29 @@ others_held name other old new kept differ =
     (λ (x y : Octets). (eq_by_cmp_equiv nat_list_cmp_total).congr other x.items y.items)
     (λ (key : Octets). apart name other key.items differ))
 
--- whether a tape is held, by what is under its name
-pub held_some : (found : Option Octets) (told : Option (List ℕ)) → option_map vec_items found ≡ told →
-    is_some found ≡ true → told ≢ None
-held_some None told e some = λ none. cc
-held_some (Some octets) told e some = λ none. let never : Some octets.items ≡ None = e ∙ none in cc
+-- what is given of the other tapes, if a peer is given octets
+pub peers_held : (old new : GivenOctets) (key name : List ℕ) → key ≡ name → Keeps key old.peers new.peers →
+    new.intake ≡ old.intake → (other : Option (List ℕ)) → other ≢ Some name → held_by new other ≡ held_by old other
+peers_held old new key name is kept intake None differ = ap (option_map vec_items) intake
+peers_held old new key name is kept intake (Some other) differ =
+    others_held key other old.peers new.peers kept (λ same. differ (ap Some (same ∙ is)))
 
-pub held_none : (found : Option Octets) (told : Option (List ℕ)) → option_map vec_items found ≡ told →
-    is_some found ≡ false → told ≡ None
-held_none None told e none = sym e
-held_none (Some octets) told e none = cc
+-- whether octets are held, by what is under their name
+pub some_held : (held told : Option (List ℕ)) → held ≡ told → is_some held ≡ true → told ≢ None
+some_held None told e some = λ none. cc
+some_held (Some octets) told e some = λ none. let never : Some octets ≡ None = e ∙ none in cc
+
+pub none_held : (held told : Option (List ℕ)) → held ≡ told → is_some held ≡ false → told ≡ None
+none_held None told e none = sym e
+none_held (Some octets) told e none = cc
+
+-- what a test refuses does not hold
+pub undeclared : (answer : Bool) (A : Type 0) → answer ≡ false → Decides answer A → A → ⊥
+undeclared answer A fails decides a = let never : true ≡ false = sym (decides.1 a) ∙ fails in cc
+
+pub is_found : (found : Option Octets) → is_some (option_map vec_items found) ≡ is_some found
+is_found None = refl
+is_found (Some octets) = refl
 
 -- what is under the names from this line number on is unchanged
 abbrev pub KeepsFrom : (names : List (List ℕ)) → ℕ → (old new : Tapes) → Type 0
@@ -89,23 +107,37 @@ given_octets None none held e empty = empty ∙ ap (λ h. unwrap_or h []) e
 given_octets (Some octets) none held e empty = ap (λ h. unwrap_or h []) e
 
 -- the peers that are given something are those that were declared
-pub given_confs : (tapes : Tapes) (confs : List PeerConf) (given : List GivenPeer) →
-    AllZip (IsGiven tapes) confs given → confs_of given ≡ confs
-given_confs tapes [] [] all = refl
-given_confs tapes [] (g ∷ given) all = absurd all
-given_confs tapes (c ∷ confs) [] all = absurd all
-given_confs tapes (c ∷ confs) (g ∷ given) all =
-    ap (λ (x : PeerConf). x ∷ confs_of given) all.0.0
-    ∙ ap (λ (xs : List PeerConf). c ∷ xs) (given_confs tapes confs given all.1)
+pub given_confs : (firsts seconds : Tapes) (confs : List PeerConf) (given : List GivenDisks) →
+    AllZip (IsGiven firsts seconds) confs given → confs_of given ≡ confs
+given_confs firsts seconds [] [] all = refl
+given_confs firsts seconds [] (g ∷ given) all = absurd all
+given_confs firsts seconds (c ∷ confs) [] all = absurd all
+given_confs firsts seconds (c ∷ confs) (g ∷ given) all =
+    ap (λ (x : PeerConf). x ∷ confs_of given) all.0.conf_is
+    ∙ ap (λ (xs : List PeerConf). c ∷ xs) (given_confs firsts seconds confs given all.1)
 
--- and each is given what its line says
-pub given_tapes : (tapes : Tapes) (sentences : List SentenceView) →
-    ((name : List ℕ) → held_at tapes name ≡ tape_of sentences name) → (confs : List PeerConf)
-    (given : List GivenPeer) → AllZip (IsGiven tapes) confs given → All (HoldsTape sentences) given
-given_tapes tapes sentences held [] [] all = All-nil (HoldsTape sentences)
-given_tapes tapes sentences held [] (g ∷ given) all = absurd all
-given_tapes tapes sentences held (c ∷ confs) [] all = absurd all
-given_tapes tapes sentences held (c ∷ confs) (g ∷ given) all =
-    let one : HoldsTape sentences g =
-    all.0.1 ∙ ap (λ h. unwrap_or h []) (held c.name ∙ ap (λ (x : PeerConf). tape_of sentences x.name) (sym all.0.0)) in
-    All-cons (HoldsTape sentences) g given one (given_tapes tapes sentences held confs given all.1)
+-- these are what sentences say of one disk of each peer's tape
+abbrev pub HoldsAt : Tapes → List SentenceView → TapeDisk → Type 0
+HoldsAt tapes sentences disk =
+    (name : List ℕ) → held_at tapes name ≡ held_of sentences (record { peer = Some name; disk = disk })
+
+octets_at : (tapes : Tapes) (sentences : List SentenceView) (disk : TapeDisk) → HoldsAt tapes sentences disk →
+    (conf own : PeerConf) (octets : List ℕ) → own ≡ conf → octets ≡ unwrap_or (held_at tapes conf.name) [] →
+    octets ≡ octets_in sentences (Some own.name) disk
+octets_at tapes sentences disk held conf own octets same is =
+    is ∙ ap (λ h. unwrap_or h []) (held conf.name)
+    ∙ ap (λ (x : PeerConf). octets_in sentences (Some x.name) disk) (sym same)
+
+-- and each is given what its lines say
+pub given_tapes : (firsts seconds : Tapes) (sentences : List SentenceView) → HoldsAt firsts sentences First →
+    HoldsAt seconds sentences Second → (confs : List PeerConf) (given : List GivenDisks) →
+    AllZip (IsGiven firsts seconds) confs given → All (HoldsTape sentences) given
+given_tapes firsts seconds sentences one other [] [] all = All-nil (HoldsTape sentences)
+given_tapes firsts seconds sentences one other [] (g ∷ given) all = absurd all
+given_tapes firsts seconds sentences one other (c ∷ confs) [] all = absurd all
+given_tapes firsts seconds sentences one other (c ∷ confs) (g ∷ given) all =
+    All-cons (HoldsTape sentences) g given (
+      octets_at firsts sentences First one c g.0 g.1.items all.0.conf_is all.0.first,
+      octets_at seconds sentences Second other c g.0 g.2.items all.0.conf_is all.0.second,
+    )
+    (given_tapes firsts seconds sentences one other confs given all.1)

@@ -1,5 +1,6 @@
 pub mod Armed
 pub mod Cuts
+pub mod DiskNames
 pub mod Distinct
 pub mod Ends
 pub mod Forms

@@ -1,8 +1,10 @@
 -- The names of peers in an ordered set of octets.
-use Rattle.std.proofs.Common.{◌≡◌, ℕ, true, false, List, [], ◌∷◌, map, suc, zero, ◌||◌, inl, inr, refl, sym, subst}
+use Rattle.std.proofs.Common.{◌≡◌, ◌↔◌, ℕ, Bool, true, false, List, [], ◌∷◌}
+use Rattle.std.proofs.Common.{map, suc, zero, ◌||◌, inl, inr, refl, sym, subst}
 use Rattle.std.proofs.Common.{ap, ◌∙◌, arith}
 use Rattle.std.specs.Prelude.{◌⊎◌, Contains}
 use Rattle.std.specs.BTreeMap.{is_at}
+use Rattle.std.specs.Bool.{Decides}
 use Rattle.std.specs.BTreeSet.{insert_key}
 use Rattle.std.specs.Cmp.Lexicographic.{slice_cmp}
 use Rattle.std.specs.List.{list_any}
@@ -141,3 +143,16 @@ keeps_key key [] name (inl none) = absurd (omega (arith, none.1))
 keeps_key key [] name (inr same) = subst (λ (n : List ℕ). Contains (key.items ∷ []) n) same (in_prefix key.items [])
 keeps_key key (k ∷ keys) name h =
     keeps_at key k keys (insert_key octets_cmp keys key) name (octets_cmp key k) refl (keeps_key key keys name) h
+
+-- whether a name is among them, by what a set answers
+pub declares : (answer : Bool) (octets name : List ℕ) (keys : List Octets) (names : List (List ℕ)) →
+    answer ≡ list_any (is_at (named octets)) keys → octets ≡ name →
+    Contains (texts keys) name ↔ Contains names name → Decides answer (Contains names name)
+declares true octets name keys names is same both = (
+  λ e. both.0 (subst (Contains (texts keys)) same (found octets keys (sym is))),
+  λ h. refl,
+)
+declares false octets name keys names is same both = (
+  λ e. cc,
+  λ h. absurd (unfound octets keys (sym is) (subst (Contains (texts keys)) (sym same) (both.1 h))),
+)

@@ -6,13 +6,14 @@ use Rattle.std.specs.Str.{bytes_eq}
 use Rattle.std.proofs.lemmas.Bool.{eqb-false}
 use Rattle.std.proofs.lemmas.List.Elements.{All-cons}
 use Rattle.article_store.specs.declared.store.Found.TheVariants.{Article, Gone, Unsendable}
-use Rattle.drill_script.specs.Action.{ActionView, Hands, Receives, Supplies, Breaks, IsWritten, Spells}
-use Rattle.drill_script.specs.Line.{SentenceView, Blank, Declares, Gives, Takes, NamesText, Says, SaysStep, SaysTape}
+use Rattle.drill_script.specs.Action.{ActionView, Hands, Receives, Supplies, Breaks, IsWritten}
+use Rattle.drill_script.specs.Line.{SentenceView, Blank, Declares, Gives, Takes, GivesText, Says, SaysStep, SaysTape}
 use Rattle.drill_script.specs.Parts.{ActionOf, SaysOn, StepOf}
 use Rattle.drill_script.specs.Step.{StepView, Lines, Flushes, Begins, Parts, Seals, Connects, Acts, Ticks, Sheds}
 use Rattle.drill_script.specs.Step.{Rotates}
 use Rattle.drill_script.specs.Step.{Imports, Stops, Arms, Restarts}
 use Rattle.drill_script.specs.Words.{IsCut, IsSolid}
+use Rattle.drill_script.specs.declared.disk_name.DiskName.{DiskName}
 use Rattle.drill_script.proofs.Cuts.{cuts_once, cut_is, cut_longer, solid_from, solid_none}
 use Rattle.drill_script.proofs.Forms.{number_solid, step_parts}
 use Rattle.drill_script.proofs.Peers.{peer_once}
@@ -279,18 +280,19 @@ tape_no_blank line behind e (inr comment) =
 peer_no_tape : (line x y : List ℕ) → line ≡ codes "peer " ++ x → line ≡ codes "tape " ++ y → ⊥
 peer_no_tape line x y p q = differs (codes "peer " ++ x) (codes "tape " ++ y) refl line p q
 
-tape_no_step : (line name octets : List ℕ) (step : StepView) → SaysTape line name octets → SaysStep line step → ⊥
+tape_no_step : (line : List ℕ) (name : DiskName) (octets : List ℕ) (step : StepView) → SaysTape line name octets
+    → SaysStep line step → ⊥
 tape_no_step line name octets step p q =
     no_step line (codes "tape") (Some p.0) (solid_from (codes "tape") refl) p.1 refl step q
 
 -- a line that begins like a tape's but is written otherwise says nothing
 pub no_tape_none : (line text : List ℕ) → line ≡ codes "tape " ++ text →
-    ((name octets : List ℕ) → NamesText Spells text name octets → ⊥) → (said : SentenceView) →
+    ((name : DiskName) (octets : List ℕ) → GivesText text name octets → ⊥) → (said : SentenceView) →
     Says line said → ⊥
 no_tape_none line text e none Blank says = tape_no_blank line text e says
 no_tape_none line text e none (Declares peer) says = peer_no_tape line says.declaration text says.written e
 no_tape_none line text e none (Gives name octets) says =
-    none name octets (subst (λ (r : List ℕ). NamesText Spells r name octets)
+    none name octets (subst (λ (r : List ℕ). GivesText r name octets)
     (behind_once says.0 text (sym says.1 ∙ e)) says.2)
 no_tape_none line text e none (Takes step) says =
     no_step line (codes "tape") (Some text) (solid_from (codes "tape") refl) e refl step says
@@ -309,7 +311,7 @@ says_once line (Gives name octets) (Declares peer) p q =
     absurd (peer_no_tape line q.declaration p.0 q.written p.1)
 says_once line (Gives one octets) (Gives other others) p q =
     let same = tape_once line one other octets others p q in
-    ap (λ (n : List ℕ). Gives n octets) same.0 ∙ ap (λ (o : List ℕ). Gives other o) same.1
+    ap (λ (n : DiskName). Gives n octets) same.name ∙ ap (λ (o : List ℕ). Gives other o) same.octets
 says_once line (Gives name octets) (Takes step) p q = absurd (tape_no_step line name octets step p q)
 says_once line (Takes step) (Gives name octets) p q = absurd (tape_no_step line name octets step q p)
 says_once line (Declares peer) (Takes step) p q =

@@ -27,7 +27,7 @@ octets_solid (octet ∷ octets) pass =
     let parts = and_parts (is_name_octet octet) (list_all is_name_octet octets) pass in
     and_from (is_solid octet) (list_all is_solid octets) (octet_solid octet parts.0) (octets_solid octets parts.1)
 
-name_octets : (octets : List ℕ) → IsTrue (is_peer_name octets) → list_all is_name_octet octets ≡ true
+pub name_octets : (octets : List ℕ) → IsTrue (is_peer_name octets) → list_all is_name_octet octets ≡ true
 name_octets octets named = grind (arith, nat_tests)
 
 pub name_solid : (name : List ℕ) → IsTrue (is_peer_name name) → IsSolid name

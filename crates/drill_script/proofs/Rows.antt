@@ -1,14 +1,21 @@
 -- What some lines say.
-use Rattle.std.proofs.Common.{◌≡◌, ℕ, List, [], ◌∷◌, ◌++◌, None, Some, inl, inr, refl}
+use Rattle.std.proofs.Common.{◌≡◌, ℕ, false, List, [], ◌∷◌, ◌++◌, Option, None, Some, inl, inr, refl}
 use Rattle.std.specs.Prelude.{codes}
 use Rattle.article_store.specs.declared.store.Found.TheVariants.{Gone}
+use Rattle.funnel.specs.Names.{is_peer_name}
 use Rattle.drill_script.specs.Action.{Ends, Hands, IsWritten, Receives, Spells, Supplies}
 use Rattle.drill_script.specs.StopRequest.{request_of}
 use Rattle.drill_script.specs.Line.{Blank, Gives, Says, SaysStep, Takes}
 use Rattle.drill_script.specs.Numbers.{u64_of}
-use Rattle.drill_script.specs.Script.{KeepsOrder, tape_of}
+use Rattle.drill_script.specs.Script.{KeepsOrder, held_of}
 use Rattle.drill_script.specs.Step.{Lines, Flushes, Begins, Parts, Seals, Connects, Acts, Ticks, Imports, Stops, Arms}
 use Rattle.drill_script.specs.Step.{Restarts}
+use Rattle.drill_script.specs.declared.disk_name.DiskName.{DiskName}
+use Rattle.drill_script.specs.declared.disk_name.TapeDisk.{TapeDisk}
+use Rattle.drill_script.specs.declared.disk_name.TapeDisk.TheVariants.{First, Second}
+
+abbrev disk_of : Option (List ℕ) → TapeDisk → DiskName
+disk_of peer disk = record { peer = peer; disk = disk }
 
 blank_line : Says [] Blank
 blank_line = inl refl
@@ -65,8 +72,28 @@ seal_line : SaysStep (codes "seal") Seals
 seal_line = refl
 
 -- octets are written in digits of either case, at least one pair
-tape_line : Spells (codes "a5Ff") (165 ∷ 255 ∷ []) → Says (codes "tape p a5Ff") (Gives (codes "p") (165 ∷ 255 ∷ []))
-tape_line spells = (codes "p a5Ff", refl, (codes "a5Ff", refl, refl, spells))
+tape_line : Spells (codes "a5Ff") (165 ∷ 255 ∷ [])
+    → Says (codes "tape p a5Ff") (Gives (disk_of (Some (codes "p")) First) (165 ∷ 255 ∷ []))
+tape_line spells = (codes "p a5Ff", refl, (codes "p", codes "a5Ff", refl, (refl, refl), spells))
+
+-- `~b` behind the name of a tape is its second disk
+second_line : Spells (codes "a5") (165 ∷ [])
+    → Says (codes "tape p~b a5") (Gives (disk_of (Some (codes "p")) Second) (165 ∷ []))
+second_line spells = (codes "p~b a5", refl, (codes "p~b", codes "a5", refl, (refl, refl), spells))
+
+intakes_line : Spells (codes "a5") (165 ∷ []) → Says (codes "tape ~intake a5") (Gives (disk_of None First) (165 ∷ []))
+intakes_line spells = (codes "~intake a5", refl, (codes "~intake", codes "a5", refl, (refl, tt), spells))
+
+intakes_second_line : Spells (codes "a5") (165 ∷ [])
+    → Says (codes "tape ~intake~b a5") (Gives (disk_of None Second) (165 ∷ []))
+intakes_second_line spells = (codes "~intake~b a5", refl, (codes "~intake~b", codes "a5", refl, (refl, tt), spells))
+
+-- the word for the intake's tape is no peer's name, and neither is one with `~b`
+intake_is_no_peer : is_peer_name (codes "~intake") ≡ false
+intake_is_no_peer = refl
+
+second_is_no_peer : is_peer_name (codes "p~b") ≡ false
+second_is_no_peer = refl
 
 -- the text of a backlog file may be empty, but the space before it is not left out; `gone` is a text like any other
 empty_import : SaysStep (codes "import p ") (Imports (codes "p") [])
@@ -82,12 +109,20 @@ odd_digits octets spells = let never = spells.1 in cc
 no_digits : (octets : List ℕ) → Spells [] octets → ⊥
 no_digits octets spells = spells.0 refl
 
--- the tape of a peer is what its line says
-tape_of_one : tape_of (Gives (codes "q") (0 ∷ []) ∷ Gives (codes "p") (165 ∷ []) ∷ []) (codes "p") ≡ Some (165 ∷ [])
-tape_of_one = refl
+-- what a disk holds is what its line says
+held_of_one : held_of
+    (Gives (disk_of (Some (codes "q")) First) (0 ∷ []) ∷ Gives (disk_of (Some (codes "p")) First) (165 ∷ [])
+    ∷ []) (disk_of (Some (codes "p")) First) ≡ Some (165 ∷ [])
+held_of_one = refl
 
-tape_of_none : tape_of (Gives (codes "q") (0 ∷ []) ∷ []) (codes "p") ≡ None
-tape_of_none = refl
+held_of_none : held_of (Gives (disk_of (Some (codes "q")) First) (0 ∷ []) ∷ []) (disk_of (Some (codes "p")) First)
+    ≡ None
+held_of_none = refl
+
+-- the second disk of a tape is not the first
+held_of_second : held_of (Gives (disk_of None First) (0 ∷ []) ∷ Gives (disk_of None Second) (165 ∷ []) ∷ [])
+    (disk_of None Second) ≡ Some (165 ∷ [])
+held_of_second = refl
 
 -- the numbers of a script: only digits, and at most 64 bits
 greatest_number : u64_of (codes "18446744073709551615") ≡ Some 18446744073709551615

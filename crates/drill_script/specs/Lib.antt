@@ -1,5 +1,6 @@
 pub mod Action
 pub mod StopRequest
+pub mod DiskName
 pub mod Draft
 pub mod Line
 pub mod Numbers

@@ -5,12 +5,14 @@ use Rattle.article_store.specs.declared.store.Found.TheVariants.{Article, Gone, 
 use Rattle.feed_conf.specs.Settings.{Settings}
 use Rattle.funnel.specs.Names.{is_peer_name}
 use Rattle.drill_script.specs.Action.{ActionView, Hands, Receives, Supplies, Breaks, IsWritten, Spells, line_of}
+use Rattle.drill_script.specs.DiskName.{Names}
 use Rattle.drill_script.specs.StopRequest.{request_of}
 use Rattle.drill_script.specs.Numbers.{u64_of}
 use Rattle.drill_script.specs.Peer.{SaysPeer}
 use Rattle.drill_script.specs.Step.{StepView, Lines, Flushes, Begins, Parts, Seals, Connects, Acts, Ticks, Sheds}
 use Rattle.drill_script.specs.Step.{Rotates}
 use Rattle.drill_script.specs.Step.{Imports, Stops, Arms, Restarts}
+use Rattle.drill_script.specs.declared.disk_name.DiskName.{DiskName}
 
 -- the name of a peer, one space, and then a writing of these octets
 abbrev pub NamesText : (IsWriting : List ℕ → List ℕ → Type 0) → (text name octets : List ℕ) → Type 0
@@ -51,16 +53,20 @@ SaysStep line (Arms armed) =
     × (request_of (slice_split (λ octet. octet == 32) words) ≡ Some armed)
 SaysStep line Restarts = line ≡ codes "restart"
 
--- a line says that the first disk of this peer's tape holds these octets
-abbrev pub SaysTape : (line name octets : List ℕ) → Type 0
-SaysTape line name octets =
-    (rest : List ℕ) × (line ≡ codes "tape " ++ rest) × NamesText Spells rest name octets
+-- the name of a disk, one space, and then pairs of hexadecimal digits that spell these octets
+abbrev pub GivesText : (text : List ℕ) → DiskName → (octets : List ℕ) → Type 0
+GivesText text name octets =
+    (word digits : List ℕ) × (text ≡ word ++ 32 ∷ digits) × Names word name × Spells digits octets
 
--- what one line says: nothing, a peer, what a peer's tape holds, or a step
+-- a line says that this disk holds these octets
+abbrev pub SaysTape : (line : List ℕ) → DiskName → (octets : List ℕ) → Type 0
+SaysTape line name octets = (rest : List ℕ) × (line ≡ codes "tape " ++ rest) × GivesText rest name octets
+
+-- what one line says: nothing, a peer, what a disk of a tape holds, or a step
 pub data SentenceView : Type 0 where
   Blank : SentenceView
   Declares : Settings → SentenceView
-  Gives : (name octets : List ℕ) → SentenceView
+  Gives : DiskName → (octets : List ℕ) → SentenceView
   Takes : StepView → SentenceView
 
 -- Empty lines and lines that begin with `#` say nothing.

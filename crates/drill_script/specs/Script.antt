@@ -5,21 +5,25 @@ use Rattle.std.specs.Cmp.Lexicographic.{slice_cmp}
 use Rattle.std.specs.List.{All, AllZip}
 use Rattle.std.specs.List.Sorted.{IsSortedBy}
 use Rattle.std.specs.Ordering.{is_lt, nat_cmp}
-use Rattle.std.specs.Str.{bytes_eq}
 use Rattle.feed_conf.specs.PeerView.{settings_view}
 use Rattle.feed_conf.specs.Settings.{Settings}
 use Rattle.feed_conf.specs.declared.conf.PeerConf.{PeerConf}
 use Rattle.funnel.specs.Line.{without_cr}
 use Rattle.funnel.specs.Stream.{BeginsWithLine, IsUnended, ended}
+use Rattle.drill_script.specs.DiskName.{is_same}
 use Rattle.drill_script.specs.Line.{SentenceView, Blank, Declares, Gives, Takes, Says}
 use Rattle.drill_script.specs.Step.{StepView, step_view}
+use Rattle.drill_script.specs.declared.disk_name.DiskName.{DiskName}
+use Rattle.drill_script.specs.declared.disk_name.TapeDisk.{TapeDisk}
+use Rattle.drill_script.specs.declared.disk_name.TapeDisk.TheVariants.{First, Second}
 use Rattle.drill_script.specs.declared.fault.BrokenRule.{BrokenRule}
-use Rattle.drill_script.specs.declared.fault.BrokenRule.TheVariants.{NoStep, NoPeer, PeerBehindStep, DeclaredTwice, NoTape}
+use Rattle.drill_script.specs.declared.fault.BrokenRule.TheVariants.{NoStep, NoPeer}
+use Rattle.drill_script.specs.declared.fault.BrokenRule.TheVariants.{PeerBehindStep, DeclaredTwice, NoTape}
 use Rattle.drill_script.specs.declared.fault.BrokenRule.TheVariants.{TapeBehindStep, NoPeerOfTape, TapeTwice, Unended}
 use Rattle.drill_script.specs.declared.fault.ScriptFault.{ScriptFault}
 use Rattle.drill_script.specs.declared.fault.ScriptFault.TheVariants.{Broken, NoMemory}
 use Rattle.drill_script.specs.declared.read.Script.{Script}
-use Rattle.world_core.specs.Given.{GivenPeer}
+use Rattle.world_core.specs.Given.{GivenDisks}
 
 -- the steps among sentences
 abbrev pub steps_of : List SentenceView → List StepView
@@ -51,21 +55,26 @@ peers_of (Takes step ∷ sentences) = peers_of sentences
 abbrev pub names_of : List SentenceView → List (List ℕ)
 names_of sentences = map (λ (peer : Settings). peer.name) (peers_of sentences)
 
--- what this peer's tape holds by the first sentence that gives it; none if there is none
-abbrev pub tape_of : List SentenceView → List ℕ → Option (List ℕ)
-tape_of [] name = None
-tape_of (Blank ∷ sentences) name = tape_of sentences name
-tape_of (Declares peer ∷ sentences) name = tape_of sentences name
-tape_of (Gives peer octets ∷ sentences) name = if bytes_eq peer name then Some octets else tape_of sentences name
-tape_of (Takes step ∷ sentences) name = tape_of sentences name
+-- what this disk holds by the first sentence that gives it; none if there is none
+abbrev pub held_of : List SentenceView → DiskName → Option (List ℕ)
+held_of [] name = None
+held_of (Blank ∷ sentences) name = held_of sentences name
+held_of (Declares peer ∷ sentences) name = held_of sentences name
+held_of (Gives disk octets ∷ sentences) name = if is_same disk name then Some octets else held_of sentences name
+held_of (Takes step ∷ sentences) name = held_of sentences name
 
--- a sentence may follow these: a peer if there is no step among them and no peer of its name; a tape if there is no
--- step among them, its peer is declared, and its tape is not given
+-- the peer of a tape is declared; the intake's has none
+abbrev pub HasItsPeer : (names : List (List ℕ)) → Option (List ℕ) → Type 0
+HasItsPeer names None = Unit {0}
+HasItsPeer names (Some name) = Contains names name
+
+-- a sentence may follow these: a peer if there is no step among them and no peer of its name; a disk of a tape if there
+-- is no step among them, the peer of the tape is declared, and the disk is not given
 abbrev pub MayFollow : List SentenceView → SentenceView → Type 0
 MayFollow before Blank = Unit {0}
 MayFollow before (Declares peer) = (steps_of before ≡ []) × (Contains (names_of before) peer.name → ⊥)
 MayFollow before (Gives name octets) =
-    (steps_of before ≡ []) × Contains (names_of before) name × (tape_of before name ≡ None)
+    (steps_of before ≡ []) × HasItsPeer (names_of before) name.peer × (held_of before name ≡ None)
 MayFollow before (Takes step) = Unit {0}
 
 -- each of the later sentences may stand after the earlier ones and those before it
@@ -90,22 +99,31 @@ abbrev pub KeepsRules : List ℕ → Type 0
 KeepsRules text = (sentences : List SentenceView) × Reads text sentences []
 
 -- the peers without their tapes
-abbrev pub confs_of : List GivenPeer → List PeerConf
-confs_of peers = map (λ (given : GivenPeer). given.0) peers
+abbrev pub confs_of : List GivenDisks → List PeerConf
+confs_of peers = map (λ (given : GivenDisks). given.0) peers
 
 -- the peers are in byte order of their names
 abbrev pub IsInByteOrder : List PeerConf → Type 0
 IsInByteOrder peers = IsSortedBy (λ (a : PeerConf) (b : PeerConf). is_lt (slice_cmp nat_cmp a.name b.name)) peers
 
--- a peer's tape holds what its line says, or nothing if there is no such line
-abbrev pub HoldsTape : List SentenceView → GivenPeer → Type 0
-HoldsTape sentences given = given.1.items ≡ unwrap_or (tape_of sentences given.0.name) []
+-- what a disk holds: what its line says, or nothing if there is no such line
+abbrev pub octets_in : List SentenceView → Option (List ℕ) → TapeDisk → List ℕ
+octets_in sentences peer disk = unwrap_or (held_of sentences (record { peer = peer; disk = disk })) []
 
--- a script has the peers of these sentences, in byte order of their names, each with its tape, and their steps in
--- order, with the line numbers of their lines
+-- both disks of a tape hold this
+abbrev pub HoldsDisks : List SentenceView → Option (List ℕ) → (first second : List ℕ) → Type 0
+HoldsDisks sentences peer first second =
+    (first ≡ octets_in sentences peer First) × (second ≡ octets_in sentences peer Second)
+
+abbrev pub HoldsTape : List SentenceView → GivenDisks → Type 0
+HoldsTape sentences given = HoldsDisks sentences (Some given.0.name) given.1.items given.2.items
+
+-- a script has the peers of these sentences, in byte order of their names, each with its tape, the intake's tape, and
+-- their steps in order, with the line numbers of their lines
 pub record Holds (script : Script) (sentences : List SentenceView) : Type 0 where
   pub peers : IsPermutation (peers_of sentences) (map settings_view (confs_of script.peers.items))
   pub tapes : All (HoldsTape sentences) script.peers.items
+  pub intake : HoldsDisks sentences None script.intake.0.items script.intake.1.items
   pub order : IsInByteOrder (confs_of script.peers.items)
   pub steps : map step_view script.steps.items ≡ steps_of sentences
   pub lines : script.lines.items ≡ line_numbers_of sentences
@@ -135,13 +153,13 @@ IsWhyLine before line DeclaredTwice =
     (peer : Settings) × Says line (Declares peer) × (steps_of before ≡ []) × Contains (names_of before) peer.name
 IsWhyLine before line NoTape = BeginsAsTape line × SaysNone line
 IsWhyLine before line TapeBehindStep =
-    (name octets : List ℕ) × Says line (Gives name octets) × (steps_of before ≢ [])
+    (name : DiskName) × (octets : List ℕ) × Says line (Gives name octets) × (steps_of before ≢ [])
 IsWhyLine before line NoPeerOfTape =
-    (name octets : List ℕ) × Says line (Gives name octets) × (steps_of before ≡ [])
-    × (Contains (names_of before) name → ⊥)
+    (name : DiskName) × (octets : List ℕ) × Says line (Gives name octets) × (steps_of before ≡ [])
+    × (HasItsPeer (names_of before) name.peer → ⊥)
 IsWhyLine before line TapeTwice =
-    (name octets : List ℕ) × Says line (Gives name octets) × (steps_of before ≡ []) × Contains (names_of before) name
-    × (tape_of before name ≢ None)
+    (name : DiskName) × (octets : List ℕ) × Says line (Gives name octets) × (steps_of before ≡ [])
+    × HasItsPeer (names_of before) name.peer × (held_of before name ≢ None)
 IsWhyLine before line Unended = ⊥
 
 -- the first line of what is left breaks the rules for this reason

@@ -1,14 +1,18 @@
 // The draft of a script: what its lines so far say.
-ghost use Rattle.std.specs.Prelude.{◌≡◌, ◌+◌, [], length, IfErr, IfOk, List, MatchOption, OnOk, ℕ};
+ghost use Rattle.std.specs.Prelude.{◌≡◌, ◌≢◌, ◌+◌, [], length, IfErr};
+ghost use Rattle.std.specs.Prelude.{IfOk, List, MatchOption, None, OnOk, Option};
+ghost use Rattle.std.specs.Prelude.{Some, is_some, ℕ};
+ghost use Rattle.std.specs.Bool.{Decides};
 ghost use Rattle.std.specs.List.{AllZip};
 ghost use Rattle.feed_conf.specs.PeerView.{settings_view};
 ghost use Rattle.drill_script.specs.Draft.{Drafts, Gains, IsPeerRefusal, IsReasonOf, IsRefusal, IsTapeRefusal};
 ghost use Rattle.drill_script.specs.Draft.{IsWhyTape};
-ghost use Rattle.drill_script.specs.Draft.{HaveOtherNames, IsGiven};
+ghost use Rattle.drill_script.specs.Draft.{HaveOtherNames, IsGiven, held_by, held_in};
 ghost use Rattle.drill_script.specs.Line.{Declares, Gives, Says, SentenceView, Takes};
-ghost use Rattle.drill_script.specs.Script.{Holds, MayFollow};
+ghost use Rattle.drill_script.specs.Script.{HasItsPeer, Holds, MayFollow, names_of};
 ghost use Rattle.drill_script.specs.Step.{step_view};
 
+use crate::disk_name::{DiskName, TapeDisk};
 use crate::fault::{BrokenRule, ScriptFault};
 use crate::read::Script;
 use crate::sentence::{Sentence, read_sentence};
@@ -24,8 +28,9 @@ pub struct Draft {
     // The peers, in the order of their lines.
     peers: Vec<PeerConf>,
     names: BTreeSet<Vec<u8>>,
-    // What their tapes hold, by name, if a line gives it.
-    tapes: BTreeMap<Vec<u8>, Vec<u8>>,
+    // What the first disks of tapes hold, if a line gives it, and the second ones.
+    firsts: GivenOctets,
+    seconds: GivenOctets,
     steps: Vec<Step>,
     // The line number of each step, from 1.
     lines: Vec<usize>,
@@ -38,7 +43,8 @@ impl Draft {
         Draft {
             peers: Vec::new(alloc),
             names: BTreeSet::new(alloc),
-            tapes: BTreeMap::new(alloc),
+            firsts: GivenOctets::new(alloc),
+            seconds: GivenOctets::new(alloc),
             steps: Vec::new(alloc),
             lines: Vec::new(alloc),
         }
@@ -58,7 +64,7 @@ impl Draft {
         match read_sentence(alloc, line)? {
             Some(Sentence::Nothing) => Ok(()),
             Some(Sentence::Peer(conf)) => self.declare(alloc, line_number, conf),
-            Some(Sentence::Tape(name, octets)) => self.give(alloc, line_number, &name, octets),
+            Some(Sentence::Tape(name, octets)) => self.give(alloc, line_number, name, octets),
             Some(Sentence::Step(step)) => {
                 self.take(line_number, step)?;
                 Ok(())
@@ -109,44 +115,72 @@ impl Draft {
         Ok(())
     }
 
-    // Gives the peer of this name its tape.
+    // Gives the disk of this name its octets.
     fn give(
         &mut self,
         alloc: Global,
         line_number: usize,
-        name: &PeerName,
+        name: DiskName,
         octets: Vec<u8>,
     ) -> Result<(), ScriptFault>
         ensures ok { OnOk result ((before : List SentenceView) → Drafts self.old before
-            → Gains self.old self.new before (Gives name.now octets.items)) }
+            → Gains self.old self.new before (Gives name octets.items)) }
         ensures broken { IfErr result (λ fault. (before : List SentenceView)
-            → Drafts self.old before → IsTapeRefusal line_number name.now before fault) }
+            → Drafts self.old before → IsTapeRefusal line_number name before fault) }
     {
-        if let Some(reason) = self.why_no_tape(name) {
+        if let Some(reason) = self.why_no_tape(&name) {
             return Err(ScriptFault::Broken {
                 line: line_number,
                 reason,
             });
         }
-        let key = Vec::from_slice(alloc, name.bytes())?;
-        self.tapes.insert(key, octets)?;
-        Ok(())
+        match name.disk {
+            TapeDisk::First => {
+                self.firsts.give(alloc, name.peer, octets)?;
+                Ok(())
+            }
+            TapeDisk::Second => {
+                self.seconds.give(alloc, name.peer, octets)?;
+                Ok(())
+            }
+        }
     }
 
-    // Why no tape of this peer may follow the lines so far; `None` if one may.
-    fn why_no_tape(&self, name: &PeerName) -> Option<BrokenRule>
+    // Why this disk may not follow the lines so far; `None` if it may.
+    fn why_no_tape(&self, name: &DiskName) -> Option<BrokenRule>
         ensures { (before : List SentenceView) → Drafts self.now before → MatchOption result
             ((octets : List ℕ) → MayFollow before (Gives name.now octets))
             (λ reason. IsWhyTape before name.now reason) }
     {
         if !self.steps.is_empty() {
             Some(BrokenRule::TapeBehindStep)
-        } else if !self.names.contains(name.bytes()) {
+        } else if !self.has_peer_of(&name.peer) {
             Some(BrokenRule::NoPeerOfTape)
-        } else if self.tapes.contains_key(name.bytes()) {
+        } else if self.gives(name) {
             Some(BrokenRule::TapeTwice)
         } else {
             None
+        }
+    }
+
+    // Whether the peer of a tape is declared; the intake's needs none.
+    fn has_peer_of(&self, peer: &Option<PeerName>) -> bool
+        ensures { (before : List SentenceView) → Drafts self.now before
+            → Decides result (HasItsPeer (names_of before) peer.now) }
+    {
+        match peer {
+            Some(name) => self.names.contains(name.bytes()),
+            None => true,
+        }
+    }
+
+    // Whether a line gives this disk.
+    fn gives(&self, name: &DiskName) -> bool
+        ensures { result ≡ is_some (held_in self.now name.now) }
+    {
+        match name.disk {
+            TapeDisk::First => self.firsts.holds(&name.peer),
+            TapeDisk::Second => self.seconds.holds(&name.peer),
         }
     }
 
@@ -160,33 +194,92 @@ impl Draft {
     {
         let Draft {
             mut peers,
-            tapes,
+            firsts,
+            seconds,
             steps,
             lines,
             ..
         } = self;
         peers.sort_by(|a, b| a.name.bytes().cmp(b.name.bytes()))?;
+        let intake = (
+            firsts.intake.unwrap_or(Vec::new(alloc)),
+            seconds.intake.unwrap_or(Vec::new(alloc)),
+        );
         Ok(Script {
-            peers: with_tapes(alloc, peers, tapes)?,
+            peers: with_tapes(alloc, peers, firsts.peers, seconds.peers)?,
+            intake,
             steps,
             lines,
         })
     }
 }
 
-// The peers, each with what its tape holds. Their names are distinct.
+/// What lines give of one disk of each tape.
+#[derive(Drop)]
+pub struct GivenOctets {
+    // What those of peers hold, by the peer's name.
+    peers: BTreeMap<Vec<u8>, Vec<u8>>,
+    // What the intake's holds.
+    intake: Option<Vec<u8>>,
+}
+
+impl GivenOctets {
+    fn new(alloc: Global) -> Self
+        ensures { (peer : Option (List ℕ)) → held_by result peer ≡ None }
+    {
+        GivenOctets {
+            peers: BTreeMap::new(alloc),
+            intake: None,
+        }
+    }
+
+    // Whether that of this peer's tape, or of the intake's, is given.
+    fn holds(&self, peer: &Option<PeerName>) -> bool
+        ensures { result ≡ is_some (held_by self.now peer.now) }
+    {
+        match peer {
+            Some(name) => self.peers.contains_key(name.bytes()),
+            None => self.intake.is_some(),
+        }
+    }
+
+    // Gives these octets to that of this peer's tape, or of the intake's.
+    fn give(
+        &mut self,
+        alloc: Global,
+        peer: Option<PeerName>,
+        octets: Vec<u8>,
+    ) -> Result<(), AllocError>
+        ensures here { OnOk result (held_by self.new peer ≡ Some octets.items) }
+        ensures others { OnOk result ((other : Option (List ℕ)) → other ≢ peer
+            → held_by self.new other ≡ held_by self.old other) }
+    {
+        match peer {
+            Some(name) => {
+                let key = Vec::from_slice(alloc, name.bytes())?;
+                self.peers.insert(key, octets)?;
+            }
+            None => self.intake = Some(octets),
+        }
+        Ok(())
+    }
+}
+
+// The peers, each with what the first and the second disk of its tape hold. Their names are distinct.
 fn with_tapes(
     alloc: Global,
     peers: Vec<PeerConf>,
-    mut tapes: BTreeMap<Vec<u8>, Vec<u8>>,
-) -> Result<Vec<(PeerConf, Vec<u8>)>, AllocError>
+    mut firsts: BTreeMap<Vec<u8>, Vec<u8>>,
+    mut seconds: BTreeMap<Vec<u8>, Vec<u8>>,
+) -> Result<Vec<(PeerConf, Vec<u8>, Vec<u8>)>, AllocError>
     ensures { IfOk result (λ given. HaveOtherNames peers.items
-        → AllZip (IsGiven tapes) peers.items given.items) }
+        → AllZip (IsGiven firsts seconds) peers.items given.items) }
 {
     let mut given = Vec::with_capacity(alloc, peers.len())?;
     for conf in peers {
-        let octets = tapes.remove(conf.name.bytes()).unwrap_or(Vec::new(alloc));
-        given.push((conf, octets))?;
+        let first = firsts.remove(conf.name.bytes()).unwrap_or(Vec::new(alloc));
+        let second = seconds.remove(conf.name.bytes()).unwrap_or(Vec::new(alloc));
+        given.push((conf, first, second))?;
     }
     Ok(given)
 }

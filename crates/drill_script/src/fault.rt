@@ -18,13 +18,13 @@ pub enum BrokenRule {
     PeerBehindStep,
     /// It declares a peer whose name is declared already.
     DeclaredTwice,
-    /// It begins like the line of a tape, but no name and pairs of hexadecimal digits follow.
+    /// It begins like the line of a tape, but no name of a disk and pairs of hexadecimal digits follow.
     NoTape,
     /// It gives a tape after a step.
     TapeBehindStep,
     /// It gives the tape of a peer that no line before it declares.
     NoPeerOfTape,
-    /// It gives the tape of a peer whose tape is given already.
+    /// It gives a disk that is given already.
     TapeTwice,
     /// It is the last, and does not end with LF.
     Unended,

@@ -9,6 +9,7 @@
 #![tactic(auto)]
 
 mod action;
+mod disk_name;
 mod draft;
 mod fault;
 pub mod laws;

@@ -4,7 +4,7 @@ ghost use Rattle.std.specs.List.{IsDistinct};
 ghost use Rattle.std.specs.Str.{bytes_eq};
 ghost use Rattle.drill_script.specs.Script.{IsFirstBroken, IsScript, IsReportedOf, KeepsRules, NamesLine};
 ghost use Rattle.drill_script.specs.declared.fault.ScriptFault.TheVariants.{NoMemory};
-ghost use Rattle.world_core.specs.Given.{given_names};
+ghost use Rattle.world_core.specs.Given.{disks_names};
 
 use crate::draft::Draft;
 use crate::fault::{BrokenRule, ScriptFault};
@@ -16,9 +16,11 @@ use world_core::Step;
 /// A script that keeps its rules.
 #[derive(Drop)]
 pub struct Script {
-    /// The peers, in byte order of their names, each with what the first disk of its tape holds before the first
-    /// step.
-    pub peers: Vec<(PeerConf, Vec<u8>)>,
+    /// The peers, in byte order of their names, each with what the first and the second disk of its tape hold before
+    /// the first step.
+    pub peers: Vec<(PeerConf, Vec<u8>, Vec<u8>)>,
+    /// What the disks of the intake's tape hold then.
+    pub intake: (Vec<u8>, Vec<u8>),
     /// The steps, in order.
     pub steps: Vec<Step>,
     /// The line number of each step among all lines, from 1.
@@ -33,7 +35,7 @@ pub fn read_script(alloc: Global, text: &[u8]) -> Result<Script, ScriptFault>
     ensures ok { IfOk result (IsScript text.now) }
     // The names of its peers are distinct.
     ensures distinct { IfOk result (λ script. IsDistinct bytes_eq
-        (given_names script.peers.items)) }
+        (disks_names script.peers.items)) }
     ensures placed { IfOk result
         (λ script. length script.lines.items ≡ length script.steps.items) }
     ensures broken { IfErr result (IsReportedOf text.now) }

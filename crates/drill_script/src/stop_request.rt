@@ -8,7 +8,8 @@ use funnel::PeerName;
 use std::alloc::{AllocError, Global};
 use world_core::Step;
 
-const INTAKE: &[u8] = b"~intake";
+// The word for the intake's tape.
+pub(crate) const INTAKE: &[u8] = b"~intake";
 
 /// A stop that is to be armed.
 #[derive(Drop)]

@@ -180,5 +180,5 @@ AreOn source number line DeclaredTwice lines =
 AreOn source number line NoPeerOfTape lines =
     lines ≡ second_text source number line (codes "the name of a peer that a line above declares")
 AreOn source number line TapeTwice lines =
-    lines ≡ second_text source number line (codes "a peer whose tape no line above gives")
+    lines ≡ second_text source number line (codes "a disk that no line above gives")
 AreOn source number line Unended lines = lines ≡ []

@@ -1,6 +1,7 @@
 -- The parts that a line of a script has after its first word (docs/FORMATS.md).
-use Rattle.std.specs.Prelude.{◌==◌, ◌+◌, ◌%◌, ◌&&◌, ◌||◌, ℕ, Bool, true, false, List, [], ◌∷◌, ◌++◌, Option, None, Some}
-use Rattle.std.specs.Prelude.{codes, length, nat_le, nat_lt, not, slice_index, if◌then◌else◌}
+use Rattle.std.specs.Prelude.{◌==◌, ◌+◌, ◌-◌, ◌%◌, ◌&&◌, ◌||◌, ℕ, Bool}
+use Rattle.std.specs.Prelude.{true, false, List, [], ◌∷◌, ◌++◌, Option, None, Some}
+use Rattle.std.specs.Prelude.{codes, drop, length, nat_le, nat_lt, not, slice_index, take, if◌then◌else◌}
 use Rattle.std.specs.Char.{is_ascii_hexdigit}
 use Rattle.std.specs.List.{position}
 use Rattle.std.specs.Option.{is_some, option_map}
@@ -9,7 +10,8 @@ use Rattle.funnel.specs.Names.{is_peer_name}
 use Rattle.drill_script.specs.Numbers.{u64_of}
 use Rattle.drill_script.specs.StopRequest.{is_tape}
 use Rattle.script_fault_text.specs.declared.part.Part.{Part}
-use Rattle.script_fault_text.specs.declared.part.Part.TheVariants.{Peer, Tape, Number, Call, Octet, Digits, Written}
+use Rattle.script_fault_text.specs.declared.part.Part.TheVariants.{Peer, Tape, Disk, Number}
+use Rattle.script_fault_text.specs.declared.part.Part.TheVariants.{Call, Octet, Digits, Written}
 use Rattle.script_fault_text.specs.declared.part.Part.TheVariants.{Text, Rest}
 
 -- nothing may follow the word
@@ -37,7 +39,7 @@ parts_of word =
     else if names_connection word then Some (Number ∷ [])
     else if bytes_eq word (codes "line") then Some (Rest ∷ [])
     else if bytes_eq word (codes "peer") then Some (Peer ∷ Rest ∷ [])
-    else if bytes_eq word (codes "tape") then Some (Peer ∷ Digits ∷ [])
+    else if bytes_eq word (codes "tape") then Some (Disk ∷ Digits ∷ [])
     else if bytes_eq word (codes "import") then Some (Peer ∷ Written ∷ [])
     else if bytes_eq word (codes "say") then Some (Number ∷ Text ∷ [])
     else if bytes_eq word (codes "raw") then Some (Number ∷ Digits ∷ [])
@@ -56,6 +58,7 @@ may_lack _ = false
 abbrev pub wanted : Part → List ℕ
 wanted Peer = codes "the name of a peer, of 1 to 64 letters, digits, '.', '-' and '_', the first not '.'"
 wanted Tape = codes "the name of a peer, or ~intake"
+wanted Disk = codes "the name of a peer, or ~intake, and ~b after it for the second disk"
 wanted Number = codes "a number of 0 to 18446744073709551615"
 wanted Call = codes "the number of a disk call, from 1"
 wanted Octet = codes "a number of 0 to 255"
@@ -63,6 +66,11 @@ wanted Digits = codes "pairs of hexadecimal digits"
 wanted Written = codes "a text whose only escapes are \\n, \\r, \\0 and \\\\"
 wanted Text = codes "a text"
 wanted Rest = codes "a text"
+
+-- the name of a tape, or that with `~b` after it
+abbrev pub is_disk : List ℕ → Bool
+is_disk text =
+    if bytes_eq (drop (length text - 2) text) (codes "~b") then is_tape (take (length text - 2) text) else is_tape text
 
 -- a number above 0
 abbrev pub is_call_number : Option ℕ → Bool
@@ -125,6 +133,7 @@ first_count text =
 abbrev pub misfit_place : Part → List ℕ → Option ℕ
 misfit_place Peer text = none_unless (is_peer_name text)
 misfit_place Tape text = none_unless (is_tape text)
+misfit_place Disk text = none_unless (is_disk text)
 misfit_place Number text = none_unless (is_some (u64_of text))
 misfit_place Call text = none_unless (is_call text)
 misfit_place Octet text = none_unless (is_octet text)

@@ -51,7 +51,7 @@ pub fn explain_fault(
             )
         }
         BrokenRule::TapeTwice => {
-            on_second(alloc, place, line, b"a peer whose tape no line above gives")
+            on_second(alloc, place, line, b"a disk that no line above gives")
         }
         BrokenRule::Unended => Ok(Vec::new(alloc)),
     }

@@ -1,7 +1,8 @@
 // The parts that a line of a script has after its first word (docs/FORMATS.md).
 ghost use Rattle.std.specs.Prelude.{◌≡◌, ◌≤◌, ◌<◌, IfSome, length, option_map};
 ghost use Rattle.drill_script.specs.StopRequest.{is_tape};
-ghost use Rattle.script_fault_text.specs.Parts.{bad_escape, digits_misfit, first_count, is_call, is_escape, is_octet};
+ghost use Rattle.script_fault_text.specs.Parts.{bad_escape, digits_misfit, first_count, is_call, is_disk, is_escape};
+ghost use Rattle.script_fault_text.specs.Parts.{is_octet};
 ghost use Rattle.script_fault_text.specs.Parts.{no_digit, odd_end};
 ghost use Rattle.script_fault_text.specs.Parts.{may_lack, misfit_place, none_unless, parts_of, stands_alone};
 ghost use Rattle.script_fault_text.specs.Parts.{names_connection, names_peer, wanted};
@@ -16,6 +17,8 @@ pub enum Part {
     Peer,
     /// The name of a peer, or `~intake`. Without it nothing else may follow.
     Tape,
+    /// The name of a peer, or `~intake`, with `~b` or without.
+    Disk,
     /// A number of 64 bits.
     Number,
     /// Such a number, but not 0.
@@ -47,7 +50,7 @@ pub fn parts_of(word: &[u8]) -> Option<&'static [Part]>
     } else if word == b"peer".as_slice() {
         Some(&[Part::Peer, Part::Rest])
     } else if word == b"tape".as_slice() {
-        Some(&[Part::Peer, Part::Digits])
+        Some(&[Part::Disk, Part::Digits])
     } else if word == b"import".as_slice() {
         Some(&[Part::Peer, Part::Written])
     } else if word == b"say".as_slice() {
@@ -110,6 +113,7 @@ impl Part {
                 "the name of a peer, of 1 to 64 letters, digits, '.', '-' and '_', the first not '.'"
             }
             Part::Tape => "the name of a peer, or ~intake",
+            Part::Disk => "the name of a peer, or ~intake, and ~b after it for the second disk",
             Part::Number => "a number of 0 to 18446744073709551615",
             Part::Call => "the number of a disk call, from 1",
             Part::Octet => "a number of 0 to 255",
@@ -128,6 +132,7 @@ impl Part {
         match self {
             Part::Peer => none_unless(PeerNameForm::holds(text)),
             Part::Tape => none_unless(is_tape(text)),
+            Part::Disk => none_unless(is_disk(text)),
             Part::Number => none_unless(read_number(text).is_some()),
             Part::Call => none_unless(is_call(text)),
             Part::Octet => none_unless(is_octet(text)),
@@ -149,6 +154,15 @@ fn is_tape(text: &[u8]) -> bool
     ensures { result ≡ is_tape text.now }
 {
     text == b"~intake".as_slice() || PeerNameForm::holds(text)
+}
+
+fn is_disk(text: &[u8]) -> bool
+    ensures { result ≡ is_disk text.now }
+{
+    match text.strip_suffix(b"~b") {
+        Some(tape) => is_tape(tape),
+        None => is_tape(text),
+    }
 }
 
 // Whether this is the number of a disk call.

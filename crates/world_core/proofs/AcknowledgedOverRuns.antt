@@ -1,16 +1,16 @@
 -- What was acknowledged stays acknowledged over any steps, taken or refused.
 use Rattle.std.proofs.Common.{◌≡◌, ℕ, false, Some, List, refl}
 use Rattle.std.specs.List.{slice_get}
+use Rattle.sections.specs.ListLaws.{zip_weaker}
 use Rattle.sections.specs.TapeLaws.{tape_noted, tape_same}
 use Rattle.sections.specs.Tapes.{TapePast}
 use Rattle.world_core.specs.Past.{Past, PeerPast, with_peer, with_tape}
 use Rattle.world_core.specs.Events.{AllDo, Event}
-use Rattle.world_core.specs.Halts.{AtRest, ByChoice, Manner, left, left_peer}
 use Rattle.world_core.specs.Keeping.{PeerStays, PeersStay}
 use Rattle.world_core.specs.Laws.{AllStayAcknowledged, OverRuns}
 use Rattle.world_core.proofs.AcknowledgedOverEvents.{event_stays, one_changed, stay_same, stay_then}
 use Rattle.world_core.proofs.WalkOverSteps.{comes_all, events_all}
-use Rattle.world_core.proofs.WalkOverTapes.{Keeper}
+use Rattle.world_core.proofs.WalkOverTapes.{HasSameNotes, HaveSameNotes, Keeper}
 use Rattle.world_core.proofs.RelatedLists.{zip_made}
 
 -- ---- another tape with the same notes
@@ -20,14 +20,12 @@ at_same : (was now : Past) (rank : ℕ) (peer : PeerPast) (tape : TapePast) → 
 at_same was now rank peer tape here changed same =
     one_changed was now rank peer (with_tape peer tape) here changed (refl, tape_same peer.tape tape same)
 
--- ---- a stop, and a number that is kept
+-- ---- all tapes with the same notes, as after a stop
 
-left_stays : (manner : Manner) (peer : PeerPast) → PeerStays peer (left_peer manner peer)
-left_stays AtRest peer = (refl, tape_same peer.tape _ refl)
-left_stays (ByChoice choice) peer = (refl, tape_same peer.tape _ refl)
-
-left_all : (manner : Manner) (past : Past) → PeersStay past (left manner past)
-left_all manner past = zip_made PeerStays (left_peer manner) (left_stays manner) past.peers
+same_all : (was now : Past) → HaveSameNotes was now → PeersStay was now
+same_all was now same =
+    zip_weaker HasSameNotes PeerStays (λ one other is. (is.0, tape_same one.tape other.tape is.1)) was.peers now.peers
+    same
 
 -- ---- any events and any steps
 
@@ -46,11 +44,11 @@ lasting = record {
 }
 
 pub events_stay : (begun later : Past) (events : List Event) → AllDo begun events later → PeersStay begun later
-events_stay begun later events does = events_all lasting (λ event. tt) left_all begun later events does
+events_stay begun later events does = events_all lasting (λ event. tt) same_all begun later events does
 
 pub all_stay : OverRuns AllStayAcknowledged
 all_stay = λ begun later steps lines comes. record {
-  peers = comes_all lasting (λ event. tt) left_all
+  peers = comes_all lasting (λ event. tt) same_all
       (λ past rank id was now here keeps. one_changed past (with_peer past rank now) rank was now here refl
       (keeps.conf, tape_noted was.tape now.tape keeps.more keeps.notes)) begun steps lines later comes;
 }

@@ -4,6 +4,7 @@ use Rattle.std.proofs.Common.{◌≡◌, ◌⊎◌, ◌+◌, ◌++◌, ℕ, zero
 use Rattle.std.proofs.Common.{length, take, map, refl, sym, ap, ◌∙◌, subst, inl, inr}
 use Rattle.std.specs.List.{slice_get}
 use Rattle.std.proofs.Math.Seq.{take-length}
+use Rattle.std.proofs.lemmas.Bool.{cases_eq}
 use Rattle.disk_model.specs.declared.choice.Choice.{Choice}
 use Rattle.recovery.specs.Image.{Log}
 use Rattle.peer_queue.specs.Settled.{key_in}
@@ -11,17 +12,19 @@ use Rattle.peer_queue.specs.declared.limits.Owed.{Owed}
 use Rattle.peer_queue.specs.declared.limits.Owed.TheVariants.{New, Already}
 use Rattle.peer_queue.specs.declared.settled.Settled.{Settled}
 use Rattle.peer_queue.specs.declared.settled.Settled.TheVariants.{Answered, Dropped, Later, Ready}
-use Rattle.world_core.specs.Past.{Armed, Life, Past, PeerPast, with_peer, with_tape}
+use Rattle.sections.specs.Tapes.{TapePast}
+use Rattle.world_core.specs.Past.{Armed, Life, Past, PeerPast, with_intake, with_peer, with_tape}
 use Rattle.world_core.specs.Events.{AllDo, Claims, Closes, Does, Event, Imports, Owes, Refuses, Returns, Sees, Settles}
 use Rattle.world_core.specs.Events.{Sheds, calls_disk, import_key, imported_as, owed_as, owing_as, settled_as, settling}
-use Rattle.world_core.specs.Events.{shed_peer}
+use Rattle.world_core.specs.Events.{Acknowledges, Opens, OpensIntake, Parts, Rotates, Spills, seen, shed_peer}
 use Rattle.world_core.specs.Events.AllDo.{Start, Next}
 use Rattle.world_core.specs.Exchange.{FailsToBreak, FailsToHand, FailsToRead, FailsToSupply, FailsToTick, OnPair}
 use Rattle.world_core.specs.Exchange.{PairStep, RefusesOn, TakesArticle, TakesBreak, TakesBytes, TakesHand, TakesMoment}
 use Rattle.world_core.specs.Exchange.{TicksEach, at_moment}
 use Rattle.world_core.specs.Exchange.TicksEach.{Start as NoneTicked, Next as OneTicked}
 use Rattle.world_core.specs.Halts.{AtRest, ByChoice, GoesOn, Manner, RefusesStop, TakesStop, halted, left, left_peer}
-use Rattle.world_core.specs.Moments.{CallsNoOther, Ended, HadLog, HasLog, IsUnderWay, WasLeft}
+use Rattle.world_core.specs.Crashes.{IsUnderWay}
+use Rattle.world_core.specs.Moments.{CallsNoOther, Ended, HadLog, HasLog, WasLeft}
 use Rattle.world_core.specs.Runs.{Does as DoesStep, Meets, Refuses as RefusesAny, RefusesTapes, RefusesWorld, Takes}
 use Rattle.world_core.specs.Steps.{FailsPlan, IsPlan, Plan, RefusesPlan, TakesPlan, must_run}
 use Rattle.world_core.specs.Output.{View}
@@ -33,7 +36,8 @@ use Rattle.world_core.specs.declared.step.Step.TheVariants.{Article, Break, Byte
 use Rattle.world_core.proofs.PairGoesOn.{Goes, keeps_pair, went_article, went_break, went_bytes, went_hand}
 use Rattle.world_core.proofs.PairGoesOn.{went_moment, went_unbroken, went_unhanded, went_unread, went_unsupplied}
 use Rattle.world_core.proofs.PairGoesOn.{went_unticked}
-use Rattle.world_core.proofs.Moments.{log_of, not_none}
+use Rattle.world_core.proofs.Moments.{log_of, not_none, seen_log}
+use Rattle.world_core.proofs.PeerInWorld.{get_apart}
 use Rattle.world_core.proofs.MarksAndNotes.{map_set}
 use Rattle.world_core.proofs.WalkOverTapes.{frame}
 
@@ -64,15 +68,26 @@ last_of (z ∷ xs) x (suc n) (y ∷ all) is =
     let rest = last_of xs x n all more in
     (ap (λ l. y ∷ l) rest.0 ∙ ap (λ a. a ∷ xs) same, rest.1)
 
--- ---- nothing has happened to any peer's disks
+-- ---- nothing has happened to any disk
 
-abbrev logs : Past → List Log
-logs past = map (λ (peer : PeerPast). peer.tape.log) past.peers
+abbrev peer_logs : List PeerPast → List Log
+peer_logs peers = map (λ (peer : PeerPast). peer.tape.log) peers
+
+-- what has happened to the disks of each tape, the intake's last
+abbrev logs : Past → List Log × Log
+logs past = (peer_logs past.peers, past.intake.log)
 
 quiet_put : (was now : Past) (rank : ℕ) (peer new : PeerPast) → slice_get was.peers rank ≡ Some peer
     → now ≡ with_peer was rank new → new.tape.log ≡ peer.tape.log → logs now ≡ logs was
 quiet_put was now rank peer new here changed same =
-    ap logs changed ∙ map_set (λ (p : PeerPast). p.tape.log) was.peers rank peer new here same
+    ap logs changed
+    ∙ ap (λ (ls : List Log). (ls, was.intake.log))
+    (map_set (λ (p : PeerPast). p.tape.log) was.peers rank peer new here same)
+
+-- the same of the intake's tape
+quiet_intake : (was now : Past) (tape : TapePast) → now ≡ with_intake was tape → tape.log ≡ was.intake.log
+    → logs now ≡ logs was
+quiet_intake was now tape changed same = ap logs changed ∙ ap (λ (l : Log). (peer_logs was.peers, l)) same
 
 -- an event that calls no disk
 abbrev IsQuiet : Event → Type 0
@@ -106,7 +121,8 @@ quiet_taken (Returns rank id number) was now quiet d = quiet_put was now rank d.
 quiet_taken (Settles rank id moment outcome) was now quiet d =
     quiet_put was now rank d.peer _ d.here d.changed
     (settled_log (settling d.peer moment outcome) (key_in outcome) d.peer)
-quiet_taken (Sees number) was now quiet d = ap logs d.changed
+quiet_taken (Sees number) was now quiet d =
+    quiet_intake was now (seen number was.intake) d.changed (seen_log number was.intake)
 quiet_taken event was now quiet d = absurd cc
 
 quiet_refused : (event : Event) (was now : Past) (fault : Fault) → IsQuiet event → Refuses event was fault now
@@ -125,13 +141,89 @@ quiet_refused (Returns rank id number) was now fault quiet r =
     quiet_put was now rank r.peer (with_tape r.peer r.tape) r.here r.changed (log_of _ _ r.refused.1)
 quiet_refused (Settles rank id moment outcome) was now fault quiet r =
     quiet_put was now rank r.peer (with_tape r.peer r.tape) r.here r.changed (log_of _ _ r.refused.1)
-quiet_refused (Sees number) was now fault quiet r = ap logs r.changed
+quiet_refused (Sees number) was now fault quiet r =
+    quiet_intake was now r.tape r.changed (log_of _ _ r.refused.2)
 quiet_refused event was now fault quiet r = absurd cc
 
 quiet_event : (event : Event) (was now : Past) → IsQuiet event
     → Does event was now ⊎ ((fault : Fault) × Refuses event was fault now) → logs now ≡ logs was
 quiet_event event was now quiet (inl does) = quiet_taken event was now quiet does
 quiet_event event was now quiet (inr (fault, refuses)) = quiet_refused event was now fault quiet refuses
+
+-- ---- an event that calls the disks of one tape changes no other
+
+-- one peer is another, or the intake's tape is
+abbrev ChangesAt : Option ℕ → Past → Past → Type 0
+ChangesAt (Some rank) was now = (new : PeerPast) × (now ≡ with_peer was rank new)
+ChangesAt None was now = now.peers ≡ was.peers
+
+peers_of : (was now : Past) → now ≡ was → now.peers ≡ was.peers
+peers_of was now same = ap (λ (p : Past). p.peers) same
+
+taken_at : (event : Event) (was now : Past) (tape : Option ℕ) → calls_disk event ≡ Some tape → Does event was now
+    → ChangesAt tape was now
+taken_at (Spills rank) was now tape calls d =
+    let is : Some rank ≡ tape = cc in
+    subst (λ (t : Option ℕ). ChangesAt t was now) is (_, d.changed)
+taken_at (Parts rank) was now tape calls d =
+    let is : Some rank ≡ tape = cc in
+    subst (λ (t : Option ℕ). ChangesAt t was now) is (_, d.changed)
+taken_at (Rotates rank generation) was now tape calls d =
+    let is : Some rank ≡ tape = cc in
+    subst (λ (t : Option ℕ). ChangesAt t was now) is (_, d.changed)
+taken_at Acknowledges was now tape calls d =
+    let is : None ≡ tape = cc in
+    subst (λ (t : Option ℕ). ChangesAt t was now) is (peers_of _ _ d.changed)
+taken_at (Opens rank) was now tape calls d =
+    let is : Some rank ≡ tape = cc in
+    subst (λ (t : Option ℕ). ChangesAt t was now) is (_, d.changed)
+taken_at OpensIntake was now tape calls d =
+    let is : None ≡ tape = cc in
+    subst (λ (t : Option ℕ). ChangesAt t was now) is (peers_of _ _ d.changed)
+taken_at event was now tape calls d = absurd cc
+
+refused_at : (event : Event) (was now : Past) (tape : Option ℕ) (fault : Fault) → calls_disk event ≡ Some tape
+    → Refuses event was fault now → ChangesAt tape was now
+refused_at (Spills rank) was now tape fault calls r =
+    let is : Some rank ≡ tape = cc in
+    subst (λ (t : Option ℕ). ChangesAt t was now) is (_, r.changed)
+refused_at (Parts rank) was now tape fault calls r =
+    let is : Some rank ≡ tape = cc in
+    subst (λ (t : Option ℕ). ChangesAt t was now) is (_, r.changed)
+refused_at (Rotates rank generation) was now tape fault calls r =
+    let is : Some rank ≡ tape = cc in
+    subst (λ (t : Option ℕ). ChangesAt t was now) is (_, r.changed)
+refused_at Acknowledges was now tape fault calls r =
+    let is : None ≡ tape = cc in
+    subst (λ (t : Option ℕ). ChangesAt t was now) is (peers_of _ _ r.changed)
+refused_at (Opens rank) was now tape fault calls r =
+    let is : Some rank ≡ tape = cc in
+    subst (λ (t : Option ℕ). ChangesAt t was now) is (_, r.changed)
+refused_at OpensIntake was now tape fault calls r =
+    let is : None ≡ tape = cc in
+    subst (λ (t : Option ℕ). ChangesAt t was now) is (peers_of _ _ r.changed)
+refused_at event was now tape fault calls r = absurd cc
+
+changes_at : (event : Event) (was now : Past) (tape : Option ℕ) → calls_disk event ≡ Some tape
+    → Does event was now ⊎ ((fault : Fault) × Refuses event was fault now) → ChangesAt tape was now
+changes_at event was now tape calls (inl does) = taken_at event was now tape calls does
+changes_at event was now tape calls (inr (fault, refuses)) = refused_at event was now tape fault calls refuses
+
+-- it is this tape that is called, or nothing has happened to its disks
+called_or_not : (called tape : Option ℕ) (was now : Past) → ChangesAt called was now → (log : Log)
+    → HasLog now tape log
+    → (called ≡ tape) ⊎ HasLog was tape log
+called_or_not (Some rank) (Some other) was now changes log (peer, here, is) =
+    let there : slice_get (with_peer was rank changes.0).peers other ≡ Some peer =
+    subst (λ (p : Past). slice_get p.peers other ≡ Some peer) changes.1 here in
+    elim (cases_eq other rank) [
+      | inl same ↦ inl (ap Some (sym same))
+      | inr apart ↦ inr (peer, sym (get_apart was.peers rank other changes.0 apart) ∙ there, is)
+    ]
+called_or_not (Some rank) None was now changes log is = inr (is ∙ ap (λ (p : Past). p.intake.log) changes.1)
+called_or_not None (Some other) was now changes log (peer, here, is) =
+    inr (peer, ap (λ (ps : List PeerPast). slice_get ps other) (sym changes) ∙ here, is)
+called_or_not None None was now changes log is = inl refl
 
 -- ---- a step on a connection
 
@@ -163,17 +255,22 @@ begun_quiet (peer ∷ peers) = ap (λ l. peer.tape.log ∷ l) (begun_quiet peers
 module _ (step : Step) (life : Life) where
   -- what has happened to the disks of these tapes had happened before the step, or by the end of one of its events
   abbrev AtEvents : Past → Type 0
-  AtEvents past = (rank : ℕ) (log : Log) → HasLog past rank log → HadLog step life rank log
+  AtEvents past = (tape : Option ℕ) (log : Log) → HasLog past tape log → HadLog step life tape log
 
   at_first : AtEvents life.past
-  at_first = λ rank log has. inl has
+  at_first = λ tape log has. inl has
 
   at_same : (was now : Past) → logs now ≡ logs was → AtEvents was → AtEvents now
-  at_same was now same at = λ rank log has.
-      let there = subst (λ (ls : List Log). slice_get ls rank ≡ Some has.0.tape.log) same
-      (map_get (λ (p : PeerPast). p.tape.log) now.peers rank has.0 has.1) in
-      let old = get_map (λ (p : PeerPast). p.tape.log) was.peers rank has.0.tape.log there in
-      at rank log (old.0, old.1, has.2 ∙ old.2)
+  at_same was now same at = λ tape log has. at tape log (by tape log has)
+    where
+      by : (tape : Option ℕ) (log : Log) → HasLog now tape log → HasLog was tape log
+      by (Some rank) log has =
+          let there = subst (λ (ls : List Log). slice_get ls rank ≡ Some has.0.tape.log)
+          (ap (λ (both : List Log × Log). both.0) same)
+          (map_get (λ (p : PeerPast). p.tape.log) now.peers rank has.0 has.1) in
+          let old = get_map (λ (p : PeerPast). p.tape.log) was.peers rank has.0.tape.log there in
+          (old.0, old.1, has.2 ∙ old.2)
+      by None log has = has ∙ ap (λ (both : List Log × Log). both.1) same
 
   -- the end of an event, taken or refused, if so much had happened by the end of those before it
   at_end : (was now : Past) (way : IsUnderWay step life was now) → AtEvents was → AtEvents now
@@ -181,14 +278,25 @@ module _ (step : Step) (life : Life) where
     where
       by : (called : Option (Option ℕ)) → calls_disk way.event ≡ called → AtEvents now
       by None quiet = at_same was now (quiet_event way.event was now quiet way.makes) before
-      by (Some tape) calls = λ rank log has.
-          inr (record { was = was; now = now; under_way = way; tape = tape; calls = calls; had = has })
+      by (Some called) calls = λ tape log has.
+          elim (called_or_not called tape was now (changes_at way.event was now called calls way.makes) log has) [
+            | inl same ↦ inr (record {
+              was = was;
+              now = now;
+              under_way = way;
+              calls = calls ∙ ap Some same;
+              had = has;
+            })
+            | inr old ↦ before tape log old
+          ]
 
   module _ (running : life.running ≡ must_run step) (plan : Plan) (is : IsPlan step life.past plan) where
     at_begun : AtEvents plan.begun
     at_begun = elim (frame step life.past plan is).begins [
       | inl same ↦ at_same life.past plan.begun (ap logs same) at_first
-      | inr same ↦ at_same life.past plan.begun (ap logs same ∙ begun_quiet life.past.peers) at_first
+      | inr same ↦
+          at_same life.past plan.begun (ap logs same
+          ∙ ap (λ (ls : List Log). (ls, life.past.intake.log)) (begun_quiet life.past.peers)) at_first
     ]
 
     at_done : (n : ℕ) (some : List Event) (later : Past) → AllDo plan.begun some later → some ≡ take n plan.events
@@ -227,8 +335,10 @@ module _ (step : Step) (life : Life) where
 
     at_taken : (outputs : List View) (later : Past) → TakesPlan step life.past outputs later → AtEvents later
     at_taken outputs later t =
+        let same = (frame step life.past t.plan t.is_plan).ends t.mid in
         at_same t.mid later (ap logs t.later_is
-        ∙ ap (map (λ (peer : PeerPast). peer.tape.log)) ((frame step life.past t.plan t.is_plan).ends t.mid))
+        ∙ (ap (λ (ps : List PeerPast). (peer_logs ps, (t.plan.ends t.mid).intake.log)) same.0
+        ∙ ap (λ (tape : TapePast). (peer_logs t.mid.peers, tape.log)) same.1))
         (at_all running t.plan t.is_plan t.mid t.does)
 
     at_refused : (fault : Fault) (later : Past) → RefusesPlan step life.past fault later → AtEvents later
@@ -240,27 +350,40 @@ module _ (step : Step) (life : Life) where
   -- ---- a stop
 
   abbrev AtEnd : Past → Type 0
-  AtEnd past = (rank : ℕ) (log : Log) → HasLog past rank log
-      → HadLog step life rank log ⊎ WasLeft step life rank log
+  AtEnd past = (tape : Option ℕ) (log : Log) → HasLog past tape log
+      → HadLog step life tape log ⊎ WasLeft step life tape log
 
   at_left : (manner : Manner) (past : Past) → AtEvents past → AtEnd (left manner past)
-  at_left AtRest past at = λ rank log has.
-      let old = get_map (left_peer AtRest) past.peers rank has.0 has.1 in
-      inl (at rank log (old.0, old.1, has.2 ∙ ap (λ (p : PeerPast). p.tape.log) old.2))
-  at_left (ByChoice choice) past at = λ rank log has.
-      let old = get_map (left_peer (ByChoice choice)) past.peers rank has.0 has.1 in
-      inr (record {
-        before = old.0.tape.log;
+  at_left AtRest past at = by
+    where
+      by : AtEnd (left AtRest past)
+      by (Some rank) log has =
+          let old = get_map (left_peer AtRest) past.peers rank has.0 has.1 in
+          inl (at (Some rank) log (old.0, old.1, has.2 ∙ ap (λ (p : PeerPast). p.tape.log) old.2))
+      by None log has = inl (at None log has)
+  at_left (ByChoice choice) past at = by
+    where
+      by : AtEnd (left (ByChoice choice) past)
+      by (Some rank) log has =
+          let old = get_map (left_peer (ByChoice choice)) past.peers rank has.0 has.1 in
+          inr (record {
+            before = old.0.tape.log;
+            choice = choice;
+            had = at (Some rank) old.0.tape.log (old.0, old.1, refl);
+            left_is = has.2 ∙ ap (λ (p : PeerPast). p.tape.log) old.2;
+          })
+      by None log has = inr (record {
+        before = past.intake.log;
         choice = choice;
-        had = at rank old.0.tape.log (old.0, old.1, refl);
-        left_is = has.2 ∙ ap (λ (p : PeerPast). p.tape.log) old.2;
+        had = at None past.intake.log refl;
+        left_is = has;
       })
 
   moved : (past : Past) (later : Life) → later.past ≡ past → AtEvents past → AtEnd later.past
-  moved past later changed at = subst AtEnd (sym changed) (λ rank log has. inl (at rank log has))
+  moved past later changed at = subst AtEnd (sym changed) (λ tape log has. inl (at tape log has))
 
   quiet : (later : Life) → logs later.past ≡ logs life.past → AtEnd later.past
-  quiet later same = λ rank log has. inl (at_same life.past later.past same at_first rank log has)
+  quiet later same = λ tape log has. inl (at_same life.past later.past same at_first tape log has)
 
   still : (later : Life) → later ≡ life → AtEnd later.past
   still later same = quiet later (past_of later life same)

@@ -37,11 +37,15 @@ pub mod HeldOverEvents
 pub mod StepsOfWorlds
 pub mod WorldMade
 pub mod WorldReopened
+pub mod PlansStaySound
+pub mod Crashes
 pub mod RecoveredNotes
 pub mod Moments
 pub mod LineDebts
 pub mod DiskCalls
 pub mod RunsComeAbout
+pub mod CrashesComeAbout
+pub mod DebtsLeave
 pub mod FinalAnswers
 pub mod PeerRanks
 pub mod DebtPlaces
@@ -69,3 +73,5 @@ pub mod ConnectionMade
 mod Rows
 mod ConnectionRows
 mod RunRows
+mod HeadlineRows
+mod HeadlineAnswers

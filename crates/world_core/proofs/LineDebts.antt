@@ -17,10 +17,10 @@ use Rattle.world_core.specs.Past.{Armed, Life, Past, PeerPast, with_last, with_p
 use Rattle.world_core.specs.Events.{AllDo, Does, Event, Owes, calls_disk, owed_as, owing_as}
 use Rattle.world_core.specs.Events.AllDo.{Start, Next}
 use Rattle.world_core.specs.Laws.{Comes, IsRecovered, OverRuns, StillOwes}
-use Rattle.world_core.specs.Laws.Comes.{No_step, Step_taken, Step_refused}
+use Rattle.world_core.specs.Laws.Comes.{No_step, Step_taken, Step_refused, Crashed}
 use Rattle.world_core.specs.LineLaws.{LinesAreKept, LinesAreKeptWithin, LinesAreReadAgain, MadeDebt, OwesOrEnded}
 use Rattle.world_core.specs.LineLaws.{WasBad, WasRead, new_to, read_at, reported_new}
-use Rattle.world_core.specs.Moments.{StaysPrefix}
+use Rattle.world_core.specs.Crashes.{StaysPrefix}
 use Rattle.world_core.specs.Runs.{Meets, Takes}
 use Rattle.world_core.specs.Safe.{IsSafe}
 use Rattle.world_core.specs.Steps.{Good, IsReading, NotGood, Plan, Reading, is_named, owed_there, owes_from}
@@ -59,6 +59,7 @@ begun_safe begun _ _ _ (Step_taken steps step lines outputs life later comes tak
     begun_safe begun life steps lines comes
 begun_safe begun _ _ _ (Step_refused steps step lines fault life later comes refuses safe sound) =
     begun_safe begun life steps lines comes
+begun_safe begun _ _ _ (Crashed steps cut lines life later comes crash) = begun_safe begun life steps lines comes
 
 -- its debt is owed after any prefix of its peer's notes that has every acknowledged one in it, or has ended
 debt_kept : (past : Past) (rank number : ℕ) (token id : List ℕ) (now : PeerPast) → IsSafe past

@@ -1,10 +1,9 @@
 -- At each moment within a step, whatever a stop leaves of a tape is the tape of a prefix of its notes.
-use Rattle.std.proofs.Common.{◌≡◌, ◌⊎◌, ◌+◌, ◌++◌, ℕ, Bool, true, false, ◌∙◌, Some, List, [], ◌∷◌, map, refl}
+use Rattle.std.proofs.Common.{◌≡◌, ◌⊎◌, ◌+◌, ◌++◌, ℕ, Bool, true, false, ◌∙◌, Some, List, [], ◌∷◌, refl}
 use Rattle.std.proofs.Common.{sym, ap, subst, inl, inr}
 use Rattle.std.specs.Prelude.{if◌then◌else◌, nat_lt}
 use Rattle.std.specs.List.{AllByRecursion, AllZip, slice_get}
 use Rattle.recovery.specs.Leaving.{EachLedger, IsPrefix, LedgersLeave}
-use Rattle.recovery.specs.LeavingLaws.{EachLedger-weaker}
 use Rattle.recovery.specs.Pairs.LeavesPair.{at_start}
 use Rattle.ledger_core.specs.declared.note.Note.TheVariants.{Seen}
 use Rattle.peer_queue.specs.DebtPlace.{Ready as Free, moved}
@@ -16,22 +15,22 @@ use Rattle.peer_queue.specs.declared.settled.Settled.TheVariants.{Answered, Drop
 use Rattle.sections.specs.ListLaws.{zip_put, zip_same, zip_weaker}
 use Rattle.sections.specs.Tapes.{TapePast, mark_at}
 use Rattle.world_core.specs.Past.{Past, PeerPast, with_peer, with_places, with_tape}
-use Rattle.world_core.specs.Safe.{IsSafe, KeepsLines, KeepsNotes}
-use Rattle.world_core.specs.Events.{Acknowledges, AllDo, Claims, Closes, Does, Event, Imports, Opens, OpensIntake, Owes}
+use Rattle.world_core.specs.Safe.{KeepsLines, KeepsNotes}
+use Rattle.world_core.specs.Events.{Acknowledges, Claims, Closes, Does, Event, Imports, Opens, OpensIntake, Owes}
 use Rattle.world_core.specs.Events.{Parts, Refuses, Returns, Rotates, Sees, Settles, Sheds, Spills, import_key}
 use Rattle.world_core.specs.Events.{claimed_peer, imported_as, owed_as, owing_as, seen, settled_as, settling, shed_peer}
-use Rattle.world_core.specs.Events.AllDo.{Start, Next}
 use Rattle.world_core.specs.Keeping.{PeerStays, PeersStay}
 use Rattle.world_core.specs.Laws.{StillOwes}
-use Rattle.world_core.specs.Moments.{AllMomentsAreRecovered, StaysBelow, StaysPrefix}
+use Rattle.world_core.specs.Crashes.{StaysBelow, StaysPrefix}
+use Rattle.world_core.specs.Moments.{AllMomentsAreRecovered}
 use Rattle.world_core.specs.Steps.{begun_at}
 use Rattle.world_core.specs.Tapes.{RefusesFlush, RefusesRotate, noted_at}
 use Rattle.world_core.specs.Tapes.Rotation.{Is_broken, Is_last, Is_long, Fits}
 use Rattle.world_core.specs.declared.fault.Fault.{Fault}
 use Rattle.world_core.proofs.AcknowledgedOverEvents.{peer_same, stay_same, stay_then}
+use Rattle.world_core.proofs.Crashes.{IsSafePeer, under_way_safe}
 use Rattle.world_core.proofs.RecoveredNotes.{comes_safe, still_owes}
 use Rattle.world_core.proofs.AcknowledgedOverRuns.{all_stay, events_stay}
-use Rattle.world_core.proofs.SoundOverEvents.{all_begun}
 use Rattle.world_core.proofs.RelatedLists.{zip_made}
 use Rattle.world_core.proofs.WalkOverTapes.{frame}
 
@@ -53,11 +52,8 @@ zip_with P S Q each (x ∷ xs) (y ∷ ys) zip all =
 
 -- ---- a peer
 
--- whatever a stop leaves now is the tape of a prefix of the peer's notes
-abbrev IsSafePeer : PeerPast → Type 0
-IsSafePeer peer = EachLedger (KeepsNotes peer) peer.tape.log
-
--- the same holds at each moment from the first peer to the second
+-- whatever a stop leaves at each moment from the first peer to the second is the tape of a prefix of the first's
+-- notes, if it is so now
 abbrev Leaves : PeerPast → PeerPast → Type 0
 Leaves old new = IsSafePeer old → StaysPrefix old new
 
@@ -212,7 +208,7 @@ other_intake was now tape is leaves safe =
 tape_of : (was now : Past) → was ≡ now → was.intake ≡ now.intake
 tape_of was now same = ap (λ (p : Past). p.intake) same
 
-seen_log : (number : ℕ) (tape : TapePast) → (seen number tape).log ≡ tape.log
+pub seen_log : (number : ℕ) (tape : TapePast) → (seen number tape).log ≡ tape.log
 seen_log number tape = by (nat_lt (mark_at tape) number)
   where
     by : (b : Bool) → (if b then noted_at tape (Seen number) else tape).log ≡ tape.log
@@ -270,46 +266,21 @@ event_lasts event was now (inr (fault, refuses)) = refused_lasts event was now f
 
 -- ---- where a step's events begin
 
--- the same tapes, all of them safe
-abbrev IsStart : Past → Past → Type 0
-IsStart was now = PeersStay was now × IsSafe now
-
-safe_peers : (peers : List PeerPast) → AllByRecursion IsSafePeer peers
-    → AllByRecursion IsSafePeer (map (λ (peer : PeerPast). record peer { parted = false }) peers)
-safe_peers [] safe = tt
-safe_peers (peer ∷ peers) safe = (safe.0, safe_peers peers safe.1)
-
-safe_begun : (past : Past) → IsSafe past → IsSafe (begun_at past)
-safe_begun past safe = record {
-  peers = safe_peers past.peers safe.peers;
-  intake = EachLedger-weaker (KeepsLines past.intake.history past.peers)
-      (KeepsLines past.intake.history (begun_at past).peers)
-      (λ state keeps. record { prefix = keeps.prefix; lines = all_begun state.mark past.peers keeps.lines })
-      past.intake.log safe.intake;
-}
-
-started : (past begun : Past) → IsSafe past → (begun ≡ past) ⊎ (begun ≡ begun_at past) → IsStart past begun
-started past begun safe (inl same) = subst (IsStart past) (sym same) (stay_same past past refl, safe)
-started past begun safe (inr same) =
-    subst (IsStart past) (sym same) (
-      zip_made PeerStays (λ (peer : PeerPast). record peer { parted = false }) (λ peer. peer_same peer) past.peers,
-      safe_begun past safe,
-    )
-
-safe_behind : (begun later : Past) (events : List Event) → AllDo begun events later → IsSafe begun → IsSafe later
-safe_behind begun _ _ Start safe = safe
-safe_behind begun _ _ (Next events event past later does one safe') safe = safe'
+started : (past begun : Past) → (begun ≡ past) ⊎ (begun ≡ begun_at past) → PeersStay past begun
+started past begun (inl same) = subst (PeersStay past) (sym same) (stay_same past past refl)
+started past begun (inr same) =
+    subst (PeersStay past) (sym same)
+    (zip_made PeerStays (λ (peer : PeerPast). record peer { parted = false }) (λ peer. peer_same peer) past.peers)
 
 pub moments_recovered : AllMomentsAreRecovered
 moments_recovered = λ begun life steps lines comes step was now way.
-    let start = started life.past way.plan.begun (comes_safe begun steps lines life comes)
-    (frame step life.past way.plan way.is_plan).begins in
-    let safe = safe_behind way.plan.begun was _ way.prefix start.1 in
+    let start = started life.past way.plan.begun (frame step life.past way.plan way.is_plan).begins in
+    let safe = under_way_safe step life was now way (comes_safe begun steps lines life comes) in
     record {
       prefixes = zip_with Leaves IsSafePeer StaysPrefix (λ old new leaves is. leaves is) was.peers now.peers
           (event_leaves way.event was now way.makes) safe.peers;
       owes = zip_weaker PeerStays StillOwes still_owes begun.past.peers was.peers
           (stay_then begun.past life.past was (all_stay begun life steps lines comes).peers
-          (stay_then life.past way.plan.begun was start.0 (events_stay way.plan.begun was _ way.prefix)));
+          (stay_then life.past way.plan.begun was start (events_stay way.plan.begun was _ way.prefix)));
       lines = event_lasts way.event was now way.makes safe.intake;
     }

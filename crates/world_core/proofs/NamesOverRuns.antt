@@ -14,11 +14,10 @@ use Rattle.world_core.specs.declared.step.Step.{Step}
 use Rattle.world_core.specs.declared.world.Stage.{Stage}
 use Rattle.world_core.specs.declared.world.Stage.TheVariants.{Running, Stopped}
 use Rattle.world_core.specs.declared.world.World.{World}
-use Rattle.world_core.proofs.TapesStopped.{names_left}
 use Rattle.world_core.proofs.NamesOverEvents.{names_does, names_put}
 use Rattle.world_core.proofs.SoundOverEvents.{names_begun}
 use Rattle.world_core.proofs.WalkOverSteps.{runs_all}
-use Rattle.world_core.proofs.WalkOverTapes.{Keeper}
+use Rattle.world_core.proofs.WalkOverTapes.{HasSameNotes, HaveSameNotes, Keeper}
 use Rattle.world_core.proofs.RelatedLists.{zip_length, zip_equal}
 
 abbrev named : Life → List (List ℕ)
@@ -39,10 +38,15 @@ naming = record {
   keeps_begun = λ past. names_begun past.peers;
 }
 
+names_same : (was now : Past) → HaveSameNotes was now → SameNames was now
+names_same was now same =
+    zip_equal HasSameNotes (λ (peer : PeerPast). peer.conf.name) (λ (peer : PeerPast). peer.conf.name)
+    (λ one other is. ap (λ conf. conf.name) is.0) was.peers now.peers same
+
 pub names_runs : (begun later : Life) (steps : List Step) (lines : List (List View)) → Runs begun steps lines later
     → named later ≡ named begun
 names_runs begun later steps lines runs =
-    runs_all naming (λ event. tt) (λ manner past. names_left manner past.peers)
+    runs_all naming (λ event. tt) names_same
     (λ past rank id was now here keeps. names_put past (with_peer past rank now) rank was now here keeps.conf refl)
     begun steps lines later runs
 

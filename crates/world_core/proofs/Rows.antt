@@ -26,7 +26,7 @@ use Rattle.world_core.specs.Halts.{AtRest, ByChoice, armed_with, halted, left, r
 use Rattle.world_core.specs.Imports.{Good, count_new, import_events}
 use Rattle.world_core.specs.Laws.{IsAcknowledgedLine}
 use Rattle.world_core.specs.LineLaws.{MadeDebt, OwesOrEnded, new_to, read_by, reported_new}
-use Rattle.world_core.specs.Moments.{IsUnderWay, StaysPrefix}
+use Rattle.world_core.specs.Crashes.{IsUnderWay, StaysPrefix}
 use Rattle.world_core.specs.Safe.{IsSafe}
 use Rattle.world_core.specs.Tapes.{noted_at}
 use Rattle.world_core.specs.Steps.{IsPlan, begun_at, flush_events, is_named, line_events, owed_there, planned}

@@ -44,7 +44,7 @@ has_owed mark number token id peer New within above has =
     above_noted mark peer.tape.history (Owe number token id) within has above
 has_owed mark number token id peer Already within above has = has
 
-owed_parted : (number : ℕ) (token id : List ℕ) (peer : PeerPast) (owed : Owed)
+pub owed_parted : (number : ℕ) (token id : List ℕ) (peer : PeerPast) (owed : Owed)
     → (owing_as owed number token id peer).parted ≡ peer.parted
 owed_parted number token id peer New = refl
 owed_parted number token id peer Already = refl

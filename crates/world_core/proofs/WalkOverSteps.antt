@@ -14,7 +14,7 @@ use Rattle.world_core.specs.Exchange.{TakesBytes, TakesHand, TakesMoment, TicksE
 use Rattle.world_core.specs.Exchange.TicksEach.{Start as NoneTicked, Next as OneTicked}
 use Rattle.world_core.specs.Halts.{AtRest, GoesOn, Manner, RefusesStop, TakesStop, left}
 use Rattle.world_core.specs.Laws.{Comes}
-use Rattle.world_core.specs.Laws.Comes.{No_step, Step_taken, Step_refused}
+use Rattle.world_core.specs.Laws.Comes.{No_step, Step_taken, Step_refused, Crashed}
 use Rattle.world_core.specs.Output.{View}
 use Rattle.world_core.specs.declared.fault.Fault.{Fault}
 use Rattle.world_core.specs.declared.step.Step.{Step}
@@ -23,8 +23,8 @@ use Rattle.world_core.proofs.PairGoesOn.{Goes, Went, keeps_pair, went_article, w
 use Rattle.world_core.proofs.PairGoesOn.{went_moment, went_on, went_unbroken, went_unhanded, went_unread}
 use Rattle.world_core.proofs.PairGoesOn.{went_unsupplied, went_unticked}
 use Rattle.world_core.proofs.PeerInWorld.{PeerKeeps}
-use Rattle.world_core.proofs.WalkOverTapes.{Keeper, events_keep, on_any, refuses_keep, strikes_keep, takes_keep}
-use Rattle.world_core.proofs.WalkOverTapes.{unreported_keeps}
+use Rattle.world_core.proofs.WalkOverTapes.{HaveSameNotes, Keeper, crash_keeps, events_keep, left_same, on_any}
+use Rattle.world_core.proofs.WalkOverTapes.{refuses_keep, strikes_keep, takes_keep, unreported_keeps}
 
 -- ---- what steps make
 
@@ -35,7 +35,7 @@ pub record Passage : Type 1 where
   pub tapes : Keeper
   pub on_opens : (rank : ℕ) → tapes.ON (Opens rank)
   pub on_intake : tapes.ON OpensIntake
-  pub keeps_left : (manner : Manner) (past : Past) → tapes.KEEPS past (left manner past)
+  pub keeps_same : (was now : Past) → HaveSameNotes was now → tapes.KEEPS was now
   pub MAKES : Step → Life → Life → Type 0
   pub changes : (step : Step) (life later : Life) → tapes.KEEPS life.past later.past → later.conns ≡ life.conns
       → MAKES step life later
@@ -51,7 +51,7 @@ pub record Passage : Type 1 where
       → OnPair (Went (Tick now)) id mid tt later → MAKES (Tick now) begun later
 
 module _ (passage : Passage) where
-  open passage use {tapes, on_opens, on_intake, keeps_left, MAKES}
+  open passage use {tapes, on_opens, on_intake, keeps_same, MAKES}
   open passage use {changes, halts, connects, goes_on, moves, ticks}
 
   on_past : (step : Step) (life later : Life) (past : Past) → tapes.KEEPS life.past past
@@ -82,6 +82,9 @@ module _ (passage : Passage) where
       ticks now begun mid later id (ticks_make now begun count outputs mid before)
       (went_on TakesMoment (Tick now) id (went_moment (Tick now) id) mid more later t)
 
+  left_keeps : (manner : Manner) (past : Past) → tapes.KEEPS past (left manner past)
+  left_keeps manner past = keeps_same past (left manner past) (left_same manner past)
+
   -- ---- a step that is taken
 
   stop_makes : (peer : Option (List ℕ)) (call : ℕ) (choice : Choice) (step : Step) (life : Life) (outputs : List View)
@@ -89,7 +92,7 @@ module _ (passage : Passage) where
       → TakesStop peer call choice life outputs later → MAKES step life later
   stop_makes peer zero choice step life outputs later (runs, said, changed) =
       halts step life later
-      (subst (λ (l : Life). tapes.KEEPS life.past l.past) (sym changed) (keeps_left AtRest life.past))
+      (subst (λ (l : Life). tapes.KEEPS life.past l.past) (sym changed) (left_keeps AtRest life.past))
       (ap (λ (l : Life). l.conns) changed)
   stop_makes peer (suc calls) choice step life outputs later (rank, is, said, changed) =
       same_past step life later (ap (λ (l : Life). l.past) changed) (ap (λ (l : Life). l.conns) changed)
@@ -121,7 +124,7 @@ module _ (passage : Passage) where
       → MAKES step life later
   takes_make step life outputs later (inl does) = step_makes step life outputs later does
   takes_make step life outputs later (inr strikes) =
-      halts step life later (strikes_keep tapes on_opens on_intake keeps_left step life outputs later strikes)
+      halts step life later (strikes_keep tapes on_opens on_intake keeps_same step life outputs later strikes)
       (ap (λ (l : Life). l.conns) strikes.changed)
 
   -- ---- a step that is refused
@@ -131,7 +134,7 @@ module _ (passage : Passage) where
   left_makes step life under_way later keeps (inl (runs, changed)) = on_past step life later under_way keeps changed
   left_makes step life under_way later keeps (inr (stopped, changed)) =
       on_past step life later (left AtRest under_way)
-      (tapes.joined life.past under_way (left AtRest under_way) keeps (keeps_left AtRest under_way)) changed
+      (tapes.joined life.past under_way (left AtRest under_way) keeps (left_keeps AtRest under_way)) changed
 
   tapes_refused : (step : Step) (life : Life) (fault : Fault) (later : Life) → RefusesTapes step life fault later
       → MAKES step life later
@@ -187,13 +190,13 @@ module _ (passage : Passage) where
       → MAKES step life later
   refuses_make step life fault later (inl refuses) = step_refused step life fault later refuses
   refuses_make step life fault later (inr strikes) =
-      halts step life later (unreported_keeps tapes on_opens on_intake keeps_left step life fault later strikes)
+      halts step life later (unreported_keeps tapes on_opens on_intake keeps_same step life fault later strikes)
       (ap (λ (l : Life). l.conns) strikes.changed)
 
 -- ---- any steps keep of all tapes what any event does
 
 module _ (keeper : Keeper) (any : (event : Event) → keeper.ON event)
-    (keeps_left : (manner : Manner) (past : Past) → keeper.KEEPS past (left manner past)) where
+    (keeps_same : (was now : Past) → HaveSameNotes was now → keeper.KEEPS was now) where
   any_on : (events : List Event) → AllByRecursion keeper.ON events
   any_on [] = tt
   any_on (event ∷ events) = (any event, any_on events)
@@ -203,7 +206,7 @@ module _ (keeper : Keeper) (any : (event : Event) → keeper.ON event)
 
 -- and what any connection does to its peer
 module _ (keeper : Keeper) (any : (event : Event) → keeper.ON event)
-    (keeps_left : (manner : Manner) (past : Past) → keeper.KEEPS past (left manner past))
+    (keeps_same : (was now : Past) → HaveSameNotes was now → keeper.KEEPS was now)
     (on_peer : (past : Past) (rank id : ℕ) (was now : PeerPast) → slice_get past.peers rank ≡ Some was
     → PeerKeeps id was now → keeper.KEEPS past (with_peer past rank now)) where
   went_keeps : (step : Step) (id : ℕ) (life later : Life) → OnPair (Went step) id life tt later
@@ -218,7 +221,7 @@ module _ (keeper : Keeper) (any : (event : Event) → keeper.ON event)
     tapes = keeper;
     on_opens = λ rank. any (Opens rank);
     on_intake = any OpensIntake;
-    keeps_left = keeps_left;
+    keeps_same = keeps_same;
     MAKES = λ step life later. keeper.KEEPS life.past later.past;
     changes = λ step life later keeps same. keeps;
     halts = λ step life later keeps none. keeps;
@@ -246,3 +249,6 @@ module _ (keeper : Keeper) (any : (event : Event) → keeper.ON event)
   comes_all was _ _ _ (Step_refused steps step lines fault life later comes refuses safe sound) =
       keeper.joined was.past life.past later.past (comes_all was steps lines life comes)
       (refuses_make over_tapes step life fault later refuses)
+  comes_all was _ _ _ (Crashed steps cut lines life later comes crash) =
+      keeper.joined was.past life.past later.past (comes_all was steps lines life comes)
+      (crash_keeps keeper (λ rank. any (Opens rank)) (any OpensIntake) keeps_same life cut later crash)

@@ -4,8 +4,8 @@ use Rattle.std.proofs.Common.{◌≡◌, ◌⊎◌, ◌+◌, ℕ, zero, suc, Boo
 use Rattle.std.proofs.Common.{◌∷◌, length, refl, sym, ap, ◌∙◌, subst, inl, inr}
 use Rattle.std.specs.Prelude.{if◌then◌else◌}
 use Rattle.std.specs.Global.{Vec}
-use Rattle.std.specs.List.{AllByRecursion, slice_get}
-use Rattle.sections.specs.ListLaws.{all_weaker, both_all}
+use Rattle.std.specs.List.{AllByRecursion, AllZip, slice_get}
+use Rattle.sections.specs.ListLaws.{all_weaker, both_all, zip_put, zip_same, zip_weaker}
 use Rattle.sections.specs.Tapes.{TapePast}
 use Rattle.world_core.specs.Past.{Armed, Life, Past, PeerPast, with_intake, with_peer, with_tape}
 use Rattle.world_core.specs.Safe.{KeepsNotes}
@@ -13,7 +13,9 @@ use Rattle.world_core.specs.Events.{Acknowledges, AllDo, Claims, Closes, Does, E
 use Rattle.world_core.specs.Events.{OpensIntake, Owes, Parts, Refuses, Returns, Rotates, Sees, Settles, Sheds, Spills}
 use Rattle.world_core.specs.Events.{each_rank}
 use Rattle.world_core.specs.Events.AllDo.{Start, Next}
-use Rattle.world_core.specs.Halts.{AtRest, ByChoice, Manner, halted, left, restart_events}
+use Rattle.world_core.specs.Crashes.{AreStopped, At_intake, At_peer, Before, Between, Crashes, IsMoment, IsMomentOf}
+use Rattle.world_core.specs.Crashes.{IsStoppedPeer, Within, with_log}
+use Rattle.world_core.specs.Halts.{AtRest, ByChoice, Manner, halted, left, left_peer, restart_events}
 use Rattle.world_core.specs.Imports.{IsImport}
 use Rattle.world_core.specs.Runs.{Meets, Strikes, StrikesUnreported}
 use Rattle.world_core.specs.Steps.{FailsPlan, Good, IsPlan, NotGood, Plan, Reading, RefusesPlan, TakesPlan, begun_at}
@@ -27,6 +29,7 @@ use Rattle.world_core.specs.declared.step.Step.TheVariants.{Begin, Flush, Import
 use Rattle.world_core.specs.declared.step.Step.TheVariants.{Shed}
 use Rattle.world_core.proofs.ImportEvents.{all_import}
 use Rattle.world_core.proofs.MarksAndNotes.{first_all, prefix_all, last_all}
+use Rattle.world_core.proofs.RelatedLists.{zip_made}
 use Rattle.world_core.proofs.SheddingIsSafe.{same_rotated}
 use Rattle.world_core.proofs.StationCalls.{same_history}
 
@@ -87,6 +90,37 @@ refused_so (Opens rank) was now fault r =
     other_tape was now rank r.peer r.tape r.here r.changed (ap (λ (t : TapePast). t.history) r.refused.all)
 refused_so OpensIntake was now fault r = peers_of was now r.tape r.changed
 
+-- ---- the same notes
+
+-- a peer has the same settings, and its tape the same notes
+abbrev pub HasSameNotes : PeerPast → PeerPast → Type 0
+HasSameNotes was now = (now.conf ≡ was.conf) × (now.tape.history ≡ was.tape.history)
+
+abbrev pub HaveSameNotes : Past → Past → Type 0
+HaveSameNotes was now = AllZip HasSameNotes was.peers now.peers
+
+left_peer_same : (manner : Manner) (peer : PeerPast) → HasSameNotes peer (left_peer manner peer)
+left_peer_same AtRest peer = (refl, refl)
+left_peer_same (ByChoice choice) peer = (refl, refl)
+
+pub left_same : (manner : Manner) (past : Past) → HaveSameNotes past (left manner past)
+left_same manner past = zip_made HasSameNotes (left_peer manner) (left_peer_same manner) past.peers
+
+-- at a moment of an event, and after a crash
+pub moment_same : (was now past : Past) → IsMomentOf was now past → HaveSameNotes was past
+moment_same was now _ Before = zip_same HasSameNotes (λ peer. (refl, refl)) was.peers
+moment_same was now _ (At_peer rank old new way log here there on) =
+    zip_put HasSameNotes (λ peer. (refl, refl)) was.peers rank old (with_tape old (with_log old.tape log)) here
+    (refl, refl)
+moment_same was now _ (At_intake way log on) = zip_same HasSameNotes (λ peer. (refl, refl)) was.peers
+
+pub stopped_same : (was now : Past) → AreStopped was now → HaveSameNotes was now
+stopped_same was now stopped =
+    zip_weaker IsStoppedPeer HasSameNotes (λ one other is. (
+      ap (λ (p : PeerPast). p.conf) is.all,
+      ap (λ (t : TapePast). t.history) is.tape.all,
+    )) was.peers now.peers stopped.peers
+
 -- ---- the events of steps on tapes
 
 -- an event on a tape that is open, and on no connection
@@ -112,7 +146,7 @@ owes_all P token id one rank named (peer ∷ peers) =
     owes_step P (is_named named peer) (Owes rank token id) (owes_from (rank + 1) token id named peers) (one rank)
     (owes_all P token id one (rank + 1) named peers)
 
-each_on : (P : Event → Type 0) (event : ℕ → Event) → ((rank : ℕ) → P (event rank)) → (n : ℕ)
+pub each_on : (P : Event → Type 0) (event : ℕ → Event) → ((rank : ℕ) → P (event rank)) → (n : ℕ)
     → AllByRecursion P (each_rank event n)
 each_on P event one zero = tt
 each_on P event one (suc n) = both_all P (each_rank event n) (event n ∷ []) (each_on P event one n) (one n, tt)
@@ -140,30 +174,34 @@ abbrev pub OnStep : Bool → Event → Type 0
 OnStep true event = OnTape event
 OnStep false event = IsOpening event
 
--- A plan begins at the tapes before the step, or once their number is kept; and at the end the step leaves the peers
+-- A plan begins at the tapes before the step, or once their number is kept; and at the end the step leaves all tapes
 -- alone.
 pub record Frame (step : Step) (past : Past) (plan : Plan) : Type 0 where
   pub begins : (plan.begun ≡ past) ⊎ (plan.begun ≡ begun_at past)
   pub on : AllByRecursion (OnStep (must_run step)) plan.events
-  pub ends : (later : Past) → (plan.ends later).peers ≡ later.peers
+  pub ends : (later : Past) → ((plan.ends later).peers ≡ later.peers) × ((plan.ends later).intake ≡ later.intake)
 
 -- a plan that begins at the tapes before the step
 framed : (step : Step) (past : Past) (plan : Plan) (events : List Event) (reports : Past → List View)
     → plan ≡ planned past events reports → AllByRecursion (OnStep (must_run step)) events → Frame step past plan
 framed step past plan events reports is on =
-    subst (Frame step past) (sym is) (record { begins = inl refl; on = on; ends = λ later. refl })
+    subst (Frame step past) (sym is) (record { begins = inl refl; on = on; ends = λ later. (refl, refl) })
 
 -- one that begins once their number is kept
 framed_begun : (step : Step) (past : Past) (plan : Plan) (events : List Event) (reports : Past → List View)
     → plan ≡ planned (begun_at past) events reports → AllByRecursion (OnStep (must_run step)) events
     → Frame step past plan
 framed_begun step past plan events reports is on =
-    subst (Frame step past) (sym is) (record { begins = inr refl; on = on; ends = λ later. refl })
+    subst (Frame step past) (sym is) (record { begins = inr refl; on = on; ends = λ later. (refl, refl) })
 
 reading_frame : (text : Vec ℕ) (reading : Reading) (past : Past) → Frame (Line text) past (reading_plan reading past)
 reading_frame text (Good token id named) past =
-    record { begins = inl refl; on = owes_all OnTape token id (λ rank. tt) 0 named past.peers; ends = λ later. refl }
-reading_frame text (NotGood fault) past = record { begins = inl refl; on = tt; ends = λ later. refl }
+    record {
+      begins = inl refl;
+      on = owes_all OnTape token id (λ rank. tt) 0 named past.peers;
+      ends = λ later. (refl, refl);
+    }
+reading_frame text (NotGood fault) past = record { begins = inl refl; on = tt; ends = λ later. (refl, refl) }
 
 restart_on : (past : Past) → AllByRecursion IsOpening (restart_events past)
 restart_on past = both_all IsOpening (each_rank Opens (length past.peers)) (OpensIntake ∷ [])
@@ -242,7 +280,7 @@ module _ (keeper : Keeper) where
         joined past t.mid later
         (joined past t.plan.begun t.mid p.0 (events_keep t.plan.begun t.mid t.plan.events t.does p.1))
         (alike t.mid later
-        (ap (λ (p : Past). p.peers) t.later_is ∙ (frame step past t.plan t.is_plan).ends t.mid))
+        (ap (λ (p : Past). p.peers) t.later_is ∙ ((frame step past t.plan t.is_plan).ends t.mid).0))
 
     pub failed_keeps : (fault : Fault) → FailsPlan step past fault later → KEEPS past later
     failed_keeps fault f =
@@ -267,14 +305,14 @@ module _ (keeper : Keeper) where
     on_any false event on = absurd on
 
   module _ (on_opens : (rank : ℕ) → ON (Opens rank)) (on_intake : ON OpensIntake)
-      (keeps_left : (manner : Manner) (past : Past) → KEEPS past (left manner past)) where
+      (keeps_same : (was now : Past) → HaveSameNotes was now → KEEPS was now) where
     halted_keeps : (step : Step) (manner : Manner) (stop : Armed) (under_way : Past) (life later : Life)
         → Meets step life stop under_way → later ≡ halted manner under_way life → KEEPS life.past later.past
     halted_keeps step manner stop under_way life later meets changed =
         subst (λ (l : Life). KEEPS life.past l.past) (sym changed)
         (joined life.past under_way (left manner under_way)
         (failed_keeps step (on_any on_opens on_intake (must_run step)) life.past under_way (Tape Disk) meets.failed)
-        (keeps_left manner under_way))
+        (keeps_same under_way (left manner under_way) (left_same manner under_way)))
 
     pub strikes_keep : (step : Step) (life : Life) (outputs : List View) (later : Life)
         → Strikes step life outputs later
@@ -287,3 +325,19 @@ module _ (keeper : Keeper) where
         → StrikesUnreported step life fault later → KEEPS life.past later.past
     unreported_keeps step life fault later strikes =
         halted_keeps step AtRest strikes.stop strikes.under_way life later strikes.meets strikes.changed
+
+    up_to : (life : Life) (cut : List Step) (past : Past) → IsMoment life cut past → KEEPS life.past past
+    up_to life _ _ Between = alike life.past life.past refl
+    up_to life _ past (Within step was now _ way moment) =
+        let p = plan_keeps step (on_any on_opens on_intake (must_run step)) life.past was way.plan way.is_plan in
+        joined life.past was past
+        (joined life.past way.plan.begun was p.0
+        (events_keep way.plan.begun was _ way.prefix (first_all ON way.count way.plan.events p.1)))
+        (keeps_same was past (moment_same was now past moment))
+
+    pub crash_keeps : (life : Life) (cut : List Step) (later : Life) → Crashes life cut later
+        → KEEPS life.past later.past
+    crash_keeps life cut later crash =
+        subst (λ (l : Life). KEEPS life.past l.past) (sym crash.changed)
+        (joined life.past crash.under_way crash.past (up_to life cut crash.under_way crash.moment)
+        (keeps_same crash.under_way crash.past (stopped_same crash.under_way crash.past crash.stopped)))

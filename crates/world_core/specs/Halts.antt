@@ -35,17 +35,21 @@ left manner past = record {
   begun = None;
 }
 
--- A world that has stopped while its tapes were these: connections are gone and no stop is armed; the numbers of
--- connections and the moment go on.
-abbrev pub halted : Manner → Past → Life → Life
-halted manner under_way life = record {
-  past = left manner under_way;
+-- A world that has stopped, and all of whose tapes are these now: connections are gone and no stop is armed; the
+-- numbers of connections and the moment go on.
+abbrev pub stopped_at : Past → Life → Life
+stopped_at past life = record {
+  past = past;
   conns = [];
   connected = life.connected;
   now = life.now;
   armed = None;
   running = false;
 }
+
+-- the same, of a world that has stopped while its tapes were these
+abbrev pub halted : Manner → Past → Life → Life
+halted manner under_way life = stopped_at (left manner under_way) life
 
 -- What a refused step leaves of a world whose tapes were then these: it runs on, or stays stopped.
 abbrev pub GoesOn : Life → Past → Life → Type 0

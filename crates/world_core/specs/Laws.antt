@@ -1,19 +1,20 @@
 -- What holds over any steps, taken or refused, in an administrator's words: the headline and its parts.
-use Rattle.std.specs.Prelude.{◌≡◌, ◌⊎◌, ◌<◌, ◌≤◌, ℕ, Some, List, [], ◌∷◌, ◌++◌, take, slice_get, Contains}
+use Rattle.std.specs.Prelude.{◌≡◌, ◌⊎◌, ◌<◌, ℕ, Some, List, [], ◌∷◌, ◌++◌, slice_get, Contains}
 use Rattle.std.specs.List.{AllZip}
-use Rattle.ledger_core.specs.State.{Owing, State}
+use Rattle.ledger_core.specs.State.{Owing}
 use Rattle.ledger_core.specs.declared.note.FinalCode.{FinalCode}
-use Rattle.ledger_core.specs.declared.note.Note.{Note}
 use Rattle.ledger_core.specs.declared.note.Note.TheVariants.{Final, Owe}
-use Rattle.recovery.specs.Leaving.{EachLedger, IsPrefix, MayLeave}
+use Rattle.conn_core.specs.Commands.{debt_in}
 use Rattle.conn_core.specs.History.{End, accepted, ends}
 use Rattle.conn_core.specs.Stands.{Arises}
+use Rattle.conn_core.specs.declared.outcome.Outcome.{Outcome}
 use Rattle.conn_core.specs.declared.outcome.Outcome.TheVariants.{Final as FinalOutcome}
 use Rattle.conn_core.specs.declared.verdict.Verdict.{Verdict}
 use Rattle.conn_laws.specs.Laws.{IsRightAt}
 use Rattle.sections.specs.Tapes.{IsAcknowledgedBy, IsRecovered as IsRecoveredTape, StaysAcknowledged}
 use Rattle.sections.specs.Tapes.{StillOwes as OwesStill}
 use Rattle.world_core.specs.Past.{ConnPast, Life, Past, PeerPast, conn_at, options_of}
+use Rattle.world_core.specs.Crashes.{Crashes}
 use Rattle.world_core.specs.Events.{IsCandidate}
 use Rattle.world_core.specs.Exchange.{IsConn}
 use Rattle.world_core.specs.Runs.{RefusesStep, Takes}
@@ -25,8 +26,9 @@ use Rattle.world_core.specs.declared.step.Step.{Step}
 use Rattle.world_core.specs.declared.step.Step.TheVariants.{Hand}
 
 -- What comes of a world by these steps, one after another: each is taken, and reports this, or is refused, and reports
--- nothing. A run ends at the first that is refused, and another run may go on from there. Before and after each step
--- the world is sound, and whatever a stop leaves is safe.
+-- nothing. A run ends at the first that is refused, and another run may go on from there. At any moment, between steps
+-- or within one, all may crash: the step that is cut off is among these, and reports nothing. Before and after each
+-- step the world is sound, and whatever a stop leaves is safe; that it is so after a crash is a theorem.
 pub data Comes (begun : Life) : List Step → List (List View) → Life → Type 0 where
   No_step : IsSafe begun.past → IsSoundLife begun → Comes begun [] [] begun
   Step_taken : (steps : List Step) (step : Step) (lines : List (List View)) (outputs : List View) (life later : Life)
@@ -37,6 +39,10 @@ pub data Comes (begun : Life) : List Step → List (List View) → Life → Type
       → Comes begun steps lines life
       → RefusesStep step life fault later → IsSafe later.past → IsSoundLife later
       → Comes begun (steps ++ step ∷ []) lines later
+  Crashed : (steps cut : List Step) (lines : List (List View)) (life later : Life)
+      → Comes begun steps lines life
+      → Crashes life cut later
+      → Comes begun (steps ++ cut) lines later
 
 -- this relation holds of any two worlds of which steps make the second from the first
 abbrev pub OverRuns : (Life → Life → Type 0) → Type 0
@@ -62,10 +68,10 @@ pub record Passes (begun : Life) (steps : List Step) (lines : List (List View)) 
   pub made : Comes begun first first_lines life
   pub went_on : Comes life others other_lines later
 
--- In this world the connection of this number, to the peer at this rank, has come to this verdict, and the verdict is
--- right: one of the replies that came is the final answer to a command about that very debt (RFC 3977, section 3.2; RFC
--- 4644, section 2).
-pub record Rules (life : Life) (rank id : ℕ) (verdict : Verdict) : Type 0 where
+-- In this world the connection of this number, to the peer at this rank, has come to this outcome, and the outcome is
+-- right: if it is final, one of the replies that came is the final answer to a command about that very debt (RFC 3977,
+-- section 3.2; RFC 4644, section 2).
+pub record CameTo (life : Life) (rank id : ℕ) (outcome : Outcome) : Type 0 where
   -- the connection, with its transcript, and its peer
   pub conn : ConnPast
   pub peer : PeerPast
@@ -73,12 +79,12 @@ pub record Rules (life : Life) (rank id : ℕ) (verdict : Verdict) : Type 0 wher
   pub its : conn.rank ≡ rank
   -- the transcript can have come about, by that peer's settings
   pub arises : Arises (options_of peer.conf) conn.transcript
-  -- the verdict is one of those that came out of it
+  -- the outcome is one of those that came out of it
   pub end : End
   pub among : Contains (ends (options_of peer.conf) conn.transcript) end
-  pub is_final : end.outcome ≡ FinalOutcome verdict
+  pub is_outcome : end.outcome ≡ outcome
   -- on the debt, by its number, token and id, that was accepted at its ticket
-  pub own : slice_get (accepted conn.transcript) end.ticket ≡ Some verdict.debt
+  pub own : slice_get (accepted conn.transcript) end.ticket ≡ Some (debt_in outcome)
   -- and it is right by the transcript
   pub right : IsRightAt (options_of peer.conf) conn.transcript end.ticket end.outcome
 
@@ -112,7 +118,7 @@ pub record HasVerdict (begun : Life) (steps : List Step) (lines : List (List Vie
   pub passes : Passes begun steps lines later life
   pub id : ℕ
   pub verdict : Verdict
-  pub rules : Rules life rank id verdict
+  pub came : CameTo life rank id (FinalOutcome verdict)
   -- the verdict is the one noted
   pub of_number : verdict.debt.0 ≡ number
   pub of_code : verdict.code ≡ code

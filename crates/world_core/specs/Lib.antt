@@ -9,8 +9,11 @@ pub mod Exchange
 pub mod Halts
 pub mod Runs
 pub mod Sound
+pub mod Crashes
 pub mod Laws
 pub mod ExchangeLaws
+pub mod CrashLaws
+pub mod DropLaws
 pub mod Moments
 pub mod LineLaws
 pub mod Fault

@@ -14,7 +14,7 @@ use Rattle.sections.specs.Tapes.{OwesOrEnded as OwesOrHasEnd, mark_at}
 use Rattle.world_core.specs.Past.{Life, Past, PeerPast, with_last, with_past}
 use Rattle.world_core.specs.Events.{owing_as}
 use Rattle.world_core.specs.Laws.{Comes, IsAcknowledgedLine}
-use Rattle.world_core.specs.Moments.{IsUnderWay}
+use Rattle.world_core.specs.Crashes.{IsUnderWay}
 use Rattle.world_core.specs.Runs.{Takes}
 use Rattle.world_core.specs.Steps.{IsReading, NotGood, is_named}
 use Rattle.world_core.specs.Output.{Bad, Owed, View}

@@ -257,13 +257,15 @@ pub record IsFreshPeer (conf : PeerConf) (state : State) (peer : PeerPast) : Typ
   pub places : peer.places ≡ all_ready (keys state)
   pub parted : peer.parted ≡ false
 
--- A world as it begins, with peers of what was given, in this order: its intake's tape was opened on empty disks, no
--- number is kept, there is no connection, no stop is armed, the moment is 0, and it runs.
-pub record IsFreshOf {A : Type 0} (IsPeer : A → PeerPast → Type 0) (given : List A) (life : Life) : Type 0 where
+-- A world as it begins, with peers of what was given, in this order: its intake's tape was opened with this ledger,
+-- whose mark is the last line's number, no number is kept, there is no connection, no stop is armed, the moment is 0,
+-- and it runs.
+pub record IsFreshOf {A : Type 0} (IsPeer : A → PeerPast → Type 0) (given : List A) (state : State) (life : Life) :
+    Type 0 where
   pub peers : AllZip IsPeer given life.past.peers
-  pub intake : IsFreshTape start (KeepsLines life.past.intake.history life.past.peers) life.past.intake
+  pub intake : IsFreshTape state (KeepsLines life.past.intake.history life.past.peers) life.past.intake
   pub rest : life ≡ record {
-    past = record { peers = life.past.peers; intake = life.past.intake; last = 0; begun = None };
+    past = record { peers = life.past.peers; intake = life.past.intake; last = state.mark; begun = None };
     conns = [];
     connected = 0;
     now = 0;
@@ -273,7 +275,7 @@ pub record IsFreshOf {A : Type 0} (IsPeer : A → PeerPast → Type 0) (given : 
 
 -- the same, of these settings: nothing was noted
 abbrev pub IsFresh : List PeerConf → Life → Type 0
-IsFresh confs life = IsFreshOf (λ (conf : PeerConf). IsFreshPeer conf start) confs life
+IsFresh confs life = IsFreshOf (λ (conf : PeerConf). IsFreshPeer conf start) confs start life
 
 -- the world was not made: the fault is at step 0, and memory was refused, to a disk in memory or elsewhere
 pub record WasNotMade (fault : WorldFault) : Type 0 where

@@ -123,10 +123,13 @@ pub struct WorldFault {
 /// Why no world was made of given tapes.
 #[derive(Debug, Drop, Error)]
 pub enum TapesFault {
-    /// The tape of this peer was refused: `Damaged` if the octets are no tape, or `Disk` if memory was refused to a
-    /// disk in memory.
+    /// The tape of this peer, or the intake's if there is none, was refused: `Damaged` if the octets are no tape, or
+    /// `Disk` if memory was refused to a disk in memory.
     #[error("Tape {fault}")]
-    Tape { peer: PeerName, fault: TapeFault },
+    Tape {
+        peer: Option<PeerName>,
+        fault: TapeFault,
+    },
     /// Memory was refused.
     #[error("NoMemory")]
     NoMemory,

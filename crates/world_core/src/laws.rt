@@ -1,5 +1,7 @@
 //! Laws of worlds, each the contract of a function that does nothing.
 ghost use Rattle.std.specs.Prelude.{◌+◌, List, [], ◌++◌, take};
+ghost use Rattle.world_core.specs.CrashLaws.{AnyKillComesAbout, AnyPowerFailureComesAbout};
+ghost use Rattle.world_core.specs.DropLaws.{AllAreAccountedFor};
 ghost use Rattle.world_core.specs.Events.{AllDo, Event};
 ghost use Rattle.world_core.specs.ExchangeLaws.{HandingIsEvents, OutcomesAreEvents, PutBackIsSame};
 ghost use Rattle.world_core.specs.Keeping.{PeerStays, PeersStay};
@@ -54,33 +56,42 @@ pub fn each_run_comes_about()
         (outputs ++ views_by fault.lines.items) was.later }
 {}
 
-/// Over any steps, taken or refused, stops and restarts among them, the acknowledged notes of each peer stay
+/// Steps go on from any crash. At each moment, between steps or within one, the process may end: all that has happened
+/// to a disk is left, and nothing is synced by that, so that a power failure later may still leave any image (`kill`).
+/// Or the power fails: of each disk any of its images is left, whatever is left of the others (`power`). By `Comes` the
+/// laws over any steps hold of what comes then; that it is safe and sound is proved.
+pub fn each_crash_comes_about()
+    ensures kill { AnyKillComesAbout }
+    ensures power { AnyPowerFailureComesAbout }
+{}
+
+/// Over any steps, taken or refused, stops, crashes and restarts among them, the acknowledged notes of each peer stay
 /// acknowledged.
 pub fn all_stay_acknowledged()
     ensures { OverRuns AllStayAcknowledged }
 {}
 
-/// After any steps, taken or refused, stops and restarts among them: whatever a stop may leave of a peer's tape is the
-/// tape of a prefix of its notes, with every acknowledged one in it; and each debt that was acknowledged before the
-/// steps, or that the peer's history began from, is owed there, unless the peer's notes have a final answer to it or a
-/// drop of it.
+/// After any steps, taken or refused, stops, crashes and restarts among them: whatever a stop may leave of a peer's
+/// tape is the tape of a prefix of its notes, with every acknowledged one in it; and each debt that was acknowledged
+/// before the steps, or that the peer's history began from, is owed there, unless the peer's notes have a final answer
+/// to it or a drop of it.
 pub fn all_are_recovered()
     ensures { OverRuns AllAreRecovered }
 {}
 
-/// After any steps, taken or refused, stops and restarts among them, let a step be under way. At each moment of each of
-/// its calls on a disk, whether the call answers Ok, fails, or is met by a stop, whatever a stop may leave of a peer's
-/// tape is the tape of a prefix of its notes, with every acknowledged one in it; and each debt that was acknowledged
-/// before the steps, or that the peer's history began from, is owed there, unless the peer's notes have a final answer
-/// to it or a drop of it. The same holds of whatever a stop may leave of the intake's tape, and each note that a line
-/// up to its mark made is acknowledged at its peer.
+/// After any steps, taken or refused, stops, crashes and restarts among them, let a step be under way. At each moment
+/// of each of its calls on a disk, whether the call answers Ok, fails, or is met by a stop, whatever a stop may leave
+/// of a peer's tape is the tape of a prefix of its notes, with every acknowledged one in it; and each debt that was
+/// acknowledged before the steps, or that the peer's history began from, is owed there, unless the peer's notes have a
+/// final answer to it or a drop of it. The same holds of whatever a stop may leave of the intake's tape, and each note
+/// that a line up to its mark made is acknowledged at its peer.
 pub fn all_moments_are_recovered()
     ensures { AllMomentsAreRecovered }
 {}
 
-/// Those are all calls on a peer's disks: what has happened to the disks by the end of a step, taken or refused, had
-/// happened before the step, or by the end of one of its events; or a stop came, and left what its choice leaves of
-/// that.
+/// Those are all calls on disks: what has happened to the disks of a tape, a peer's or the intake's, by the end of a
+/// step, taken or refused, had happened before the step, or by the end of one of its events that calls the disks of
+/// that very tape; or a stop came, and left what its choice leaves of that.
 pub fn steps_call_no_other_disk()
     ensures { CallsNoOther }
 {}
@@ -117,6 +128,17 @@ pub fn connections_act_by_events()
 /// when that peer owed it, or before the steps.
 pub fn all_finals_are_right()
     ensures { AllFinalsAreRight }
+{
+    each_debt_comes_out_once();
+    verdicts_are_right()
+}
+
+/// No debt leaves a ledger unnoted. Over any steps, taken or refused, stops, crashes and restarts among them: each debt
+/// that a peer owed, by its number, is owed still; or the notes since have the peer's final answer to it, which has its
+/// verdict, or a drop of it, which has its cause: a connection to the peer has come to an outcome on that very debt for
+/// which it is dropped, or the backlog was shed. Or its own note pended, and is gone, as after a stop.
+pub fn each_debt_is_accounted_for()
+    ensures { AllAreAccountedFor }
 {
     each_debt_comes_out_once();
     verdicts_are_right()

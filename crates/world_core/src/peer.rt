@@ -7,7 +7,7 @@ ghost use Rattle.world_core.specs.Past.{limits_of};
 
 use crate::fault::{Fault, TapesFault};
 use crate::stop::{StopDisk, Trigger};
-use disk_model::{Disk, MemDisk};
+use disk_model::Disk;
 use feed_conf::PeerConf;
 use funnel::{MsgId, PeerName, Token};
 use ledger_core::Key;
@@ -182,22 +182,22 @@ impl StoppedPeer {
 }
 
 impl Peer<StopDisk> {
-    ghost use Rattle.world_core.specs.Given.{OpensGiven, RefusesPeer};
+    ghost use Rattle.world_core.specs.Given.{OpensGiven, RefusesPeer, both_disks};
 
-    // Opens the station of a peer at this rank. The first disk of its tape holds these octets, the second is empty.
+    // Opens the station of a peer at this rank. The first disk of its tape holds the first octets, the second the
+    // others.
     pub(crate) fn open_given(
         alloc: Global,
-        given: (PeerConf, Vec<u8>),
+        given: (PeerConf, Vec<u8>, Vec<u8>),
         rank: usize,
         trigger: &Rc<Cell<Trigger>>,
     ) -> Result<Self, TapesFault>
-        ensures ok { IfOk result (OpensGiven given) }
-        ensures err { IfErr result (RefusesPeer given) }
+        ensures ok { IfOk result (OpensGiven (both_disks given)) }
+        ensures err { IfErr result (RefusesPeer (both_disks given)) }
     {
-        let (conf, octets) = given;
-        let first = MemDisk::holding(alloc, &octets)?;
-        let first = StopDisk::new(first, rank, trigger.clone()?);
-        let second = StopDisk::new(MemDisk::new(alloc), rank, trigger.clone()?);
+        let (conf, first, second) = given;
+        let first = StopDisk::holding(alloc, &first, rank, trigger)?;
+        let second = StopDisk::holding(alloc, &second, rank, trigger)?;
         match Station::open(alloc, first, second, limits_of(&conf)) {
             Ok(station) => Ok(Peer {
                 conf,
@@ -207,7 +207,7 @@ impl Peer<StopDisk> {
             Err(refused) => match refused.fault {
                 TapeFault::NoMemory => Err(TapesFault::NoMemory),
                 fault => Err(TapesFault::Tape {
-                    peer: conf.name,
+                    peer: Some(conf.name),
                     fault,
                 }),
             },

@@ -3,7 +3,7 @@ ghost use Rattle.std.specs.Prelude.{◌≡◌, ◌+◌, ◌-◌, ◌^◌, ◌≤
 ghost use Rattle.std.specs.Prelude.{OnOk};
 
 use disk_model::{Choice, Disk, DiskFault, MemDisk};
-use std::alloc::AllocError;
+use std::alloc::{AllocError, Global};
 use std::cell::Cell;
 use std::rc::Rc;
 
@@ -132,6 +132,24 @@ impl StopDisk {
             trigger,
             faults: 0,
         }
+    }
+
+    /// A disk of the tape at this rank that holds these octets. It has reported no fault.
+    ///
+    /// # Errors
+    /// Memory was refused.
+    pub fn holding(
+        alloc: Global,
+        octets: &[u8],
+        rank: usize,
+        trigger: &Rc<Cell<Trigger>>,
+    ) -> Result<StopDisk, AllocError>
+        ensures log { IfOk result (λ disk. happened disk ≡ Made octets.now ∷ []) }
+        ensures faults { IfOk result (λ disk. all_faults disk ≡ 0) }
+        ensures rank { IfOk result (λ disk. rank_at disk ≡ rank) }
+    {
+        let disk = MemDisk::holding(alloc, octets)?;
+        Ok(StopDisk::new(disk, rank, trigger.clone()?))
     }
 
     /// A new disk of the same tape, with what a stop by this choice leaves of this one. It has reported no fault.

@@ -8,7 +8,7 @@ use Rattle.std.proofs.lemmas.Iterator.Consumers.{YieldsList-end, YieldsList-turn
 use Rattle.std.proofs.lemmas.List.{get_or-map, length-map, map-id}
 use Rattle.feed_conf.specs.declared.conf.PeerConf.{PeerConf}
 use Rattle.drill_script.specs.Draft.{IsGiven, held_at}
-use Rattle.world_core.specs.Given.{GivenPeer}
+use Rattle.world_core.specs.Given.{GivenDisks}
 use Rattle.drill_script.proofs.Growing.{zip_push}
 use Rattle.drill_script.proofs.Held.{Keeps, KeepsFrom, given_octets, keeps_next}
 use Rattle.drill_script.proofs.Names.{Octets}
@@ -16,9 +16,10 @@ use Rattle.drill_script.proofs.draft.with_tapes.Goals as goal
 
 pub loop-conf-init : goal.loop-conf-init
 loop-conf-init c = record {
-  each = λ distinct. subst (λ (given : List GivenPeer). AllZip (IsGiven c.args.tapes) [] given)
+  each = λ distinct. subst (λ (given : List GivenDisks). AllZip (IsGiven c.args.firsts c.args.seconds) [] given)
       (sym c.in_ok-given.ensures.items) tt;
-  left = λ distinct k low high. refl;
+  firsts = λ distinct k low high. refl;
+  seconds = λ distinct k low high. refl;
 }
 
 pub loop-conf-preserved : goal.loop-conf-preserved
@@ -26,7 +27,8 @@ loop-conf-preserved c =
     let l = c.loop-conf in
     let conf = c.in-Some.conf in
     let peers = c.args.peers.items in
-    let start = c.args.tapes in
+    let one = c.args.firsts in
+    let other = c.args.seconds in
     let name : PeerConf → List ℕ = λ (p : PeerConf). p.name in
     let names = map name peers in
     let gives = c.into_iter-conf-iterator.ensures.into_iter_gives in
@@ -39,25 +41,44 @@ loop-conf-preserved c =
     let inside : length l.yielded < length names =
     subst (λ (n : ℕ). length l.yielded < n) (sym (length-map peers name)) turn.0 in
     let next : length (l.yielded ++ conf ∷ []) ≡ length l.yielded + 1 = simp length-append (omega arith) in
-    let kept : Keeps conf.name l.tapes c.remove.new.self =
-    subst (λ (n : List ℕ). Keeps n l.tapes c.remove.new.self) c.bytes.ensures.value c.remove.ensures.updates.3 in
+    let kept : Keeps conf.name l.firsts c.remove.new.self =
+    subst (λ (n : List ℕ). Keeps n l.firsts c.remove.new.self) c.bytes.ensures.value c.remove.ensures.updates.3 in
+    let kept_too : Keeps conf.name l.seconds c.remove-in-loop-conf.new.self =
+    subst (λ (n : List ℕ). Keeps n l.seconds c.remove-in-loop-conf.new.self) c.bytes-in-loop-conf.ensures.value
+    c.remove-in-loop-conf.ensures.updates.3 in
     record {
       each = λ distinct.
-          let before : held_at l.tapes conf.name ≡ held_at start conf.name =
-          subst (λ (n : List ℕ). held_at l.tapes n ≡ held_at start n) at
-          (l.invariant.left distinct (length l.yielded) (omega arith) inside) in
-          let told : option_map vec_items c.remove.result ≡ held_at start conf.name =
-          ap (option_map vec_items) c.remove.ensures.value ∙ ap (held_at l.tapes) c.bytes.ensures.value ∙ before in
-          let octets =
-          ap (λ (o : Octets). o.items) c.unwrap_or-octets.ensures
-          ∙ given_octets c.remove.result c.new.result (held_at start conf.name) told c.new.ensures.items in
-          subst (λ (given : List GivenPeer). AllZip (IsGiven start) (l.yielded ++ conf ∷ []) given)
+          let before : held_at l.firsts conf.name ≡ held_at one conf.name =
+          subst (λ (n : List ℕ). held_at l.firsts n ≡ held_at one n) at
+          (l.invariant.firsts distinct (length l.yielded) (omega arith) inside) in
+          let before_too : held_at l.seconds conf.name ≡ held_at other conf.name =
+          subst (λ (n : List ℕ). held_at l.seconds n ≡ held_at other n) at
+          (l.invariant.seconds distinct (length l.yielded) (omega arith) inside) in
+          let told : option_map vec_items c.remove.result ≡ held_at one conf.name =
+          ap (option_map vec_items) c.remove.ensures.value ∙ ap (held_at l.firsts) c.bytes.ensures.value ∙ before in
+          let told_too : option_map vec_items c.remove-in-loop-conf.result ≡ held_at other conf.name =
+          ap (option_map vec_items) c.remove-in-loop-conf.ensures.value
+          ∙ ap (held_at l.seconds) c.bytes-in-loop-conf.ensures.value
+          ∙ before_too in
+          let first =
+          ap (λ (o : Octets). o.items) c.unwrap_or-first.ensures
+          ∙ given_octets c.remove.result c.new.result (held_at one conf.name) told c.new.ensures.items in
+          let second =
+          ap (λ (o : Octets). o.items) c.unwrap_or-second.ensures
+          ∙ given_octets c.remove-in-loop-conf.result c.new-in-loop-conf.result (held_at other conf.name) told_too
+          c.new-in-loop-conf.ensures.items in
+          subst (λ (given : List GivenDisks). AllZip (IsGiven one other) (l.yielded ++ conf ∷ []) given)
           (sym c.in_ok-push.ensures.items)
-          (zip_push (IsGiven start) l.yielded l.given.items conf (conf, c.unwrap_or-octets.result)
-          (l.invariant.each distinct) (refl, octets));
-      left = λ distinct. subst (λ (n : ℕ). KeepsFrom names n start c.remove.new.self) (sym next)
-          (keeps_next names (length l.yielded) conf.name start l.tapes c.remove.new.self distinct at kept
-          (l.invariant.left distinct));
+          (zip_push (IsGiven one other) l.yielded l.given.items conf
+          (conf, c.unwrap_or-first.result, c.unwrap_or-second.result)
+          (l.invariant.each distinct) (record { conf_is = refl; first = first; second = second }));
+      firsts = λ distinct. subst (λ (n : ℕ). KeepsFrom names n one c.remove.new.self) (sym next)
+          (keeps_next names (length l.yielded) conf.name one l.firsts c.remove.new.self distinct at kept
+          (l.invariant.firsts distinct));
+      seconds = λ distinct. subst (λ (n : ℕ). KeepsFrom names n other c.remove-in-loop-conf.new.self) (sym next)
+          (keeps_next names (length l.yielded) conf.name other l.seconds c.remove-in-loop-conf.new.self distinct at
+          kept_too
+          (l.invariant.seconds distinct));
     }
 
 pub returns : goal.returns
@@ -68,5 +89,5 @@ returns c = λ distinct.
     let road = YieldsList-from_vec {s = c.into_iter-conf-iterator.result} c.args.peers.items gives.0 (gives.1 ∙ long) in
     let all = YieldsList-end road l.yielded l.conf-iterator l.yielded_by c.next.result c.next.new.self c.in-None.is
     c.next.ensures.steps in
-    subst (λ (confs : List PeerConf). AllZip (IsGiven c.args.tapes) confs l.given.items)
+    subst (λ (confs : List PeerConf). AllZip (IsGiven c.args.firsts c.args.seconds) confs l.given.items)
     (sym (map-id l.yielded) ∙ all.0) (l.invariant.each distinct)

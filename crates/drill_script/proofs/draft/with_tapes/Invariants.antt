@@ -8,7 +8,10 @@ use Rattle.drill_script.proofs.draft.with_tapes.Given as goal
 -- the peers so far are given their tapes, and the tapes of the others are as they were
 abbrev pub invariant-loop-conf : goal.invariant-loop-conf
 invariant-loop-conf l = record {
-  each : HaveOtherNames l.fn.peers.items → AllZip (IsGiven l.initial.tapes) l.yielded l.given.items;
-  left : HaveOtherNames l.fn.peers.items →
-      KeepsFrom (map (λ (conf : PeerConf). conf.name) l.fn.peers.items) (length l.yielded) l.initial.tapes l.tapes;
+  each : HaveOtherNames l.fn.peers.items
+      → AllZip (IsGiven l.initial.firsts l.initial.seconds) l.yielded l.given.items;
+  firsts : HaveOtherNames l.fn.peers.items →
+      KeepsFrom (map (λ (conf : PeerConf). conf.name) l.fn.peers.items) (length l.yielded) l.initial.firsts l.firsts;
+  seconds : HaveOtherNames l.fn.peers.items →
+      KeepsFrom (map (λ (conf : PeerConf). conf.name) l.fn.peers.items) (length l.yielded) l.initial.seconds l.seconds;
 }

@@ -6,7 +6,8 @@ use Rattle.drill_script.specs.Script.{BreaksAt}
 use Rattle.drill_script.specs.declared.fault.BrokenRule.TheVariants.{Unended}
 use Rattle.drill_script.specs.declared.fault.ScriptFault.TheVariants.{Broken}
 use Rattle.std.specs.Prelude.{Err, Ok}
-use Rattle.drill_script.proofs.Reading.{fault_good, fault_reported, first_both, has_more, keeps_both, placed, read_whole}
+use Rattle.drill_script.proofs.Reading.{fault_good, fault_reported, first_both}
+use Rattle.drill_script.proofs.Reading.{has_more, keeps_both, placed, read_whole}
 use Rattle.drill_script.proofs.Reading.{refusal_told}
 use Rattle.drill_script.proofs.Distinct.{names_differ}
 use Rattle.drill_script.proofs.read.read_script.Goals as goal
@@ -98,3 +99,17 @@ returns-clause-placed c =
     read_whole c.args.text.now c.loop-line.rest.now c.loop-line.line_number c.loop-line.draft c.in_ok-script.script
     c.loop-line.invariant.read none c.in_ok-script.ensures in
     placed c.args.text.now c.in_ok-script.script good
+
+pub returns-clause-ok : goal.returns-clause-ok
+returns-clause-ok c =
+    let none : length c.loop-line.rest.now ≡ 0 = grind (arith, common_steps) in
+    read_whole c.args.text.now c.loop-line.rest.now c.loop-line.line_number c.loop-line.draft c.in_ok-script.script
+    c.loop-line.invariant.read none c.in_ok-script.ensures
+
+pub returns-clause-keeps : goal.returns-clause-keeps
+returns-clause-keeps c =
+    let none : length c.loop-line.rest.now ≡ 0 = grind (arith, common_steps) in
+    let good =
+    read_whole c.args.text.now c.loop-line.rest.now c.loop-line.line_number c.loop-line.draft c.in_ok-script.script
+    c.loop-line.invariant.read none c.in_ok-script.ensures in
+    keeps_both c.args.text.now (Ok c.in_ok-script.script) good tt

@@ -1,29 +1,23 @@
 use Rattle.std.proofs.Common.{◌≡◌, ◌++◌, ℕ, List, rules, subst, sym}
 use Rattle.std.specs.Prelude.{codes}
 use Rattle.std.proofs.lemmas.Option.{MatchOption-at_none, MatchOption-at_some}
-use Rattle.drill_script.specs.Action.{Spells}
 use Rattle.drill_script.specs.Peer.{SaysPeer}
 use Rattle.feed_conf.specs.PeerView.{settings_view}
 use Rattle.drill_script.proofs.Once.{no_tape_none}
-use Rattle.drill_script.proofs.Tapes.{none_spelt}
 use Rattle.drill_script.proofs.sentence.read_sentence.Goals as goal
 
-pub returns-in-Some-4 : goal.returns-in-Some-4
-returns-in-Some-4 c =
+pub returns-in-Some-3 : goal.returns-in-Some-3
+returns-in-Some-3 c =
     let text = c.in-Some-strip_prefix.text.now in
     let e : c.args.line.now ≡ codes "tape " ++ text = search rules in
-    let split = MatchOption-at_some _ _ _ c.in-Some-3.is (c.in_ok-name.ensures {u = tt}) in
-    let spells = MatchOption-at_some _ _ _ c.in-Some-4.is (c.in_ok-octets.ensures {u = tt}) in
-    (text, e, (c.in-Some-3.digits.now, split.0, split.1, spells))
+    (text, e, MatchOption-at_some _ _ _ c.in-Some-3.is (c.in_ok-name.ensures {u = tt}))
 
 pub returns-in-None-2 : goal.returns-in-None-2
 returns-in-None-2 c =
     let text = c.in-Some-strip_prefix.text.now in
     let e : c.args.line.now ≡ codes "tape " ++ text = search rules in
     no_tape_none c.args.line.now text e
-    (none_spelt Spells text c.in-Some-3.name c.in-Some-3.digits.now
-    (MatchOption-at_some _ _ _ c.in-Some-3.is (c.in_ok-name.ensures {u = tt}))
-    (MatchOption-at_none _ _ c.in-None-2.is (c.in_ok-octets.ensures {u = tt})))
+    (MatchOption-at_none _ _ c.in-None-2.is (c.in_ok-name.ensures {u = tt}))
 
 pub returns-in-Some-2 : goal.returns-in-Some-2
 returns-in-Some-2 c =

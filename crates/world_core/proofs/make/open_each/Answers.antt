@@ -1,11 +1,11 @@
 -- One more tape is opened at each turn, or it is the first that is refused.
-use Rattle.std.proofs.Common.{◌≡◌, [], Some, List, length, vec_len, sym, ap, ◌∙◌, subst, arith}
+use Rattle.std.proofs.Common.{◌≡◌, [], Some, List, length, map, vec_len, sym, ap, ◌∙◌, subst, arith}
 use Rattle.std.proofs.lemmas.Iterator.Adapters.{YieldsList-from_vec}
 use Rattle.std.proofs.lemmas.Iterator.Consumers.{YieldsList-end, YieldsList-so_far, YieldsList-turn}
 use Rattle.std.proofs.lemmas.List.{map-id}
 use Rattle.std.proofs.lemmas.Option.{slice_get-get_or}
 use Rattle.std.specs.List.{AllZip}
-use Rattle.world_core.specs.Given.{GivenPeer, OpensGiven}
+use Rattle.world_core.specs.Given.{GivenDisks, OpensGiven, both_disks}
 use Rattle.world_core.proofs.WorldMade.{opens_more, stops_for}
 use Rattle.world_core.proofs.Results.{if_err_is}
 use Rattle.world_core.proofs.make.open_each.Goals as goal
@@ -43,5 +43,5 @@ returns-clause-ok c =
     let road = YieldsList-from_vec {s = c.into_iter-peer-iterator.result} given gives.0 (gives.1 ∙ long) in
     let all = YieldsList-end road l.yielded l.peer-iterator l.yielded_by c.next.result c.next.new.self c.in-None.is
     c.next.ensures.steps in
-    subst (λ (given : List GivenPeer). AllZip OpensGiven given l.peers.items) (sym (map-id l.yielded) ∙ all.0)
-    l.invariant
+    subst (λ (given : List GivenDisks). AllZip OpensGiven (map both_disks given) l.peers.items)
+    (sym (map-id l.yielded) ∙ all.0) l.invariant

@@ -22,9 +22,10 @@ returns-clause-ok c = λ before drafts.
     gains_peer c.args.self.now (record {
       peers = c.push.new.self;
       names = c.insert.new.self;
-      tapes = c.args.self.now.tapes;
+      firsts = c.args.self.now.firsts;
+      seconds = c.args.self.now.seconds;
       steps = c.args.self.now.steps;
       lines = c.args.self.now.lines;
     }) c.args.conf c.in_ok-name.name before none is
     (was_strange _ _ c.in_ok-insert.ensures.added c.if-not-branch.false) c.in_ok-insert.ensures.keys
-    c.in_ok-push.ensures.items refl refl refl drafts
+    c.in_ok-push.ensures.items refl refl refl refl drafts

@@ -1,25 +1,29 @@
-use Rattle.std.proofs.Common.{◌≡◌, ◌∙◌, ℕ, List, Some, option_map, refl, subst, ap}
-use Rattle.std.specs.Vec.{vec_items}
-use Rattle.drill_script.specs.Draft.{held_at}
-use Rattle.drill_script.proofs.Growing.{gains_tape}
-use Rattle.drill_script.proofs.Held.{others_held}
+use Rattle.std.proofs.Common.{refl}
+use Rattle.drill_script.proofs.Growing.{gains_first, gains_second}
 use Rattle.drill_script.proofs.draft.Draft.give.Goals as goal
 
-pub returns-clause-ok : goal.returns-clause-ok
-returns-clause-ok c = λ before drafts.
+pub returns-in_ok-give-in-First-clause-ok : goal.returns-in_ok-give-in-First-clause-ok
+returns-in_ok-give-in-First-clause-ok c = λ before drafts.
     let old = c.args.self.now in
-    let name = c.args.name.now in
-    let key = c.in_ok-key.key in
-    let octets = c.args.octets.items in
-    let is : key.items ≡ name = c.in_ok-key.ensures.items ∙ c.bytes.ensures.value in
-    let updates = c.in_ok-insert.ensures.updates in
-    let here : held_at c.insert.new.self name ≡ Some octets =
-    subst (λ (n : List ℕ). held_at c.insert.new.self n ≡ Some octets) is (ap (option_map vec_items) updates.1) in
-    gains_tape old (record {
+    gains_first old (record {
       peers = old.peers;
       names = old.names;
-      tapes = c.insert.new.self;
+      firsts = c.give.new.self;
+      seconds = old.seconds;
       steps = old.steps;
       lines = old.lines;
-    }) name octets before (c.in_default.ensures before drafts octets) refl refl here
-    (λ q differ. others_held key.items q old.tapes c.insert.new.self updates.3 (λ e. differ (e ∙ is))) refl refl drafts
+    }) c.args.name c.args.octets.items before c.in-First.is (c.in_default.ensures before drafts c.args.octets.items)
+    refl refl c.in_ok-give-in-First.ensures.here c.in_ok-give-in-First.ensures.others refl refl refl drafts
+
+pub returns-in_ok-give-in-Second-clause-ok : goal.returns-in_ok-give-in-Second-clause-ok
+returns-in_ok-give-in-Second-clause-ok c = λ before drafts.
+    let old = c.args.self.now in
+    gains_second old (record {
+      peers = old.peers;
+      names = old.names;
+      firsts = old.firsts;
+      seconds = c.give-in-Second.new.self;
+      steps = old.steps;
+      lines = old.lines;
+    }) c.args.name c.args.octets.items before c.in-Second.is (c.in_default.ensures before drafts c.args.octets.items)
+    refl refl c.in_ok-give-in-Second.ensures.here c.in_ok-give-in-Second.ensures.others refl refl refl drafts

@@ -1,56 +1,35 @@
-use Rattle.std.proofs.Common.{◌≡◌, ◌∙◌, ℕ, List, length, map, sym, subst, arith}
-use Rattle.std.specs.Prelude.{Contains}
-use Rattle.std.specs.Vec.{vec_items}
+use Rattle.std.proofs.Common.{◌≡◌, ◌∙◌, length, sym, arith}
 use Rattle.std.proofs.lemmas.Grind.{common_steps}
-use Rattle.drill_script.specs.Draft.{held_at}
-use Rattle.drill_script.specs.Script.{tape_of}
+use Rattle.drill_script.specs.Draft.{held_in}
+use Rattle.drill_script.specs.Script.{held_of}
 use Rattle.drill_script.proofs.Growing.{stepless}
-use Rattle.drill_script.proofs.Held.{held_none, held_some}
-use Rattle.drill_script.proofs.Names.{found, unfound}
+use Rattle.drill_script.proofs.Held.{none_held, some_held, undeclared}
 use Rattle.drill_script.proofs.draft.Draft.why_no_tape.Goals as goal
 
-pub returns-then-not-contains : goal.returns-then-not-contains
-returns-then-not-contains c = λ before drafts.
+pub returns-then-not-has_peer_of : goal.returns-then-not-has_peer_of
+returns-then-not-has_peer_of c = λ before drafts.
     let draft = c.args.self.now in
-    let keys = draft.names.keys in
-    let none : length draft.steps.items ≡ 0 = grind (arith, common_steps) in
-    let absent = sym c.contains.ensures ∙ c.if-not-contains.true in (
+    let none : length draft.steps.items ≡ 0 = grind (arith, common_steps) in (
       stepless draft before drafts none,
-      λ declared. unfound c.bytes.result.now keys absent
-          (subst (λ (n : List ℕ). Contains (map vec_items keys) n) (sym c.bytes.ensures.value)
-          ((drafts.names c.args.name.now).1 declared)),
+      undeclared c.has_peer_of.result _ c.if-not-has_peer_of.true (c.has_peer_of.ensures before drafts),
     )
 
-pub returns-then-contains_key : goal.returns-then-contains_key
-returns-then-contains_key c = λ before drafts.
+pub returns-then-gives : goal.returns-then-gives
+returns-then-gives c = λ before drafts.
     let draft = c.args.self.now in
     let name = c.args.name.now in
-    let keys = draft.names.keys in
-    let none : length draft.steps.items ≡ 0 = grind (arith, common_steps) in
-    let there = found c.bytes.result.now keys (sym c.contains.ensures ∙ c.if-not-contains.false) in
-    let declared =
-    (drafts.names name).0 (subst (λ (n : List ℕ). Contains (map vec_items keys) n) c.bytes.ensures.value there) in
-    let told =
-    subst (λ (n : List ℕ). held_at draft.tapes n ≡ tape_of before name) (sym c.bytes-else-not-contains.ensures.value)
-    (drafts.tapes name) in (
+    let none : length draft.steps.items ≡ 0 = grind (arith, common_steps) in (
       stepless draft before drafts none,
-      declared,
-      held_some _ (tape_of before name) told (sym c.contains_key.ensures ∙ c.if-contains_key.true),
+      (c.has_peer_of.ensures before drafts).0 c.if-not-has_peer_of.false,
+      some_held (held_in draft name) (held_of before name) (drafts.tapes name) (sym c.gives.ensures ∙ c.if-gives.true),
     )
 
-pub returns-else-contains_key : goal.returns-else-contains_key
-returns-else-contains_key c = λ before drafts octets.
+pub returns-else-gives : goal.returns-else-gives
+returns-else-gives c = λ before drafts octets.
     let draft = c.args.self.now in
     let name = c.args.name.now in
-    let keys = draft.names.keys in
-    let none : length draft.steps.items ≡ 0 = grind (arith, common_steps) in
-    let there = found c.bytes.result.now keys (sym c.contains.ensures ∙ c.if-not-contains.false) in
-    let declared =
-    (drafts.names name).0 (subst (λ (n : List ℕ). Contains (map vec_items keys) n) c.bytes.ensures.value there) in
-    let told =
-    subst (λ (n : List ℕ). held_at draft.tapes n ≡ tape_of before name) (sym c.bytes-else-not-contains.ensures.value)
-    (drafts.tapes name) in (
+    let none : length draft.steps.items ≡ 0 = grind (arith, common_steps) in (
       stepless draft before drafts none,
-      declared,
-      held_none _ (tape_of before name) told (sym c.contains_key.ensures ∙ c.if-contains_key.false),
+      (c.has_peer_of.ensures before drafts).0 c.if-not-has_peer_of.false,
+      none_held (held_in draft name) (held_of before name) (drafts.tapes name) (sym c.gives.ensures ∙ c.if-gives.false),
     )
