@@ -1,6 +1,6 @@
 -- What a line makes of a ledger.
 use Rattle.std.specs.Prelude.{◌≡◌, ◌≢◌, ◌↔◌, ◌+◌, ◌<◌, ◌≤◌, ℕ, List, [], ◌∷◌, Result, Err, IsErrOf, Some, refl}
-use Rattle.std.proofs.Common.{sym, subst}
+use Rattle.std.proofs.Common.{ap, sym, subst, ◌∙◌}
 use Rattle.funnel.specs.Line.{HasFault, IsBacklogLine}
 use Rattle.funnel.specs.Malformed.{first_of, one_more}
 use Rattle.funnel.specs.declared.line.LineFault.{LineFault}
@@ -59,3 +59,17 @@ takes_malformed fault past number line before report result is long none token i
       (Is_malformed fault (has_fault fault line result is long none token id) other),
   refl,
 )
+
+-- a line leaves the source open
+leaves_open : (past : State) (number : ℕ) (line : List ℕ) (before report : ImportReport) (notes : List Note)
+    → TakesLine past number line before notes report → (after past notes).closed ≡ past.closed
+leaves_open past number line before report notes (Is_owed token id good next) = refl
+leaves_open past number line before report notes (Is_passed token id good old) = refl
+leaves_open past number line before report notes (Is_malformed fault has other) = refl
+
+-- and so do lines
+pub stays_open : (begun past now : State) (number : ℕ) (line : List ℕ) (before report : ImportReport)
+    → (notes : List Note) × TakesLine past number line before notes report × (now ≡ after past notes)
+    → past.closed ≡ begun.closed → now.closed ≡ begun.closed
+stays_open begun past now number line before report (notes, takes, is) same =
+    ap (λ state. state.closed) is ∙ leaves_open past number line before report notes takes ∙ same

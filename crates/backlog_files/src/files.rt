@@ -3,6 +3,7 @@ use crate::fault::BacklogFault;
 use crate::import::{close, take_in};
 use crate::import_report::ImportReport;
 use crate::same_file::FileId;
+use crate::taken_in::TakenIn;
 use disk_model::{Disk, TapeDirectory};
 use flusher::PostPeer;
 use funnel::PeerName;
@@ -132,15 +133,15 @@ impl<'a, F: AllocGlobal + Files<File = File>> BacklogFiles<'a, F> {
             Ok(file) => file,
             Err(reason) => return Err(BacklogFault::Unread { path, reason }),
         };
-        let mut lines = LineFile::new(alloc, file)?;
-        let report = match take_in(alloc, peer, &mut lines) {
-            Ok(report) => report,
+        let lines = LineFile::new(alloc, file)?;
+        let taken = match take_in(alloc, peer, lines) {
+            Ok(taken) => taken,
             Err(fault) => return Err(BacklogFault::of_import(path, fault)),
         };
-        match self.remove(&path, &lines) {
+        match self.remove(&path, &taken) {
             Ok(is_gone) => Ok(Imported {
                 path,
-                report,
+                report: taken.report(),
                 is_left: !is_gone,
             }),
             Err(reason) => Err(BacklogFault::Unremoved { path, reason }),
@@ -171,10 +172,10 @@ impl<'a, F: AllocGlobal + Files<File = File>> BacklogFiles<'a, F> {
         Ok(())
     }
 
-    // Removes the file that was read, and makes that durable, unless there is another file at this path by now, or a
-    // longer one. Returns whether there is no file any more.
-    fn remove(&self, path: &str, lines: &LineFile<File>) -> io::Result<bool> {
-        let (file, read) = lines.reader();
+    // Removes the file that was taken in, and makes that durable, unless there is another file at this path by now, or
+    // a longer one. Returns whether there is no file any more.
+    fn remove(&self, path: &str, taken: &TakenIn<File>) -> io::Result<bool> {
+        let (file, read) = taken.reader();
         let was = FileId::of(&file.metadata()?);
         match fs::symlink_metadata(self.files, path) {
             Ok(there) if FileId::of(&there) != was || there.len() != read => return Ok(false),

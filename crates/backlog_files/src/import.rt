@@ -9,8 +9,10 @@ ghost use Rattle.ledger_core.specs.State.{after, step};
 ghost use Rattle.ledger_core.specs.declared.note.Note.{Note};
 ghost use Rattle.peer_queue.specs.Words.{ledger_of, open_key};
 
+use crate::closed_source::ClosedSource;
 use crate::fault::ImportFault;
 use crate::import_report::ImportReport;
+use crate::taken_in::TakenIn;
 use disk_model::Disk;
 use flusher::PostPeer;
 use funnel::{LineFault, MsgId, Token, read_backlog_line};
@@ -148,8 +150,9 @@ fn close_source<D: Disk>(peer: &mut PostPeer<D>) -> Result<u32, StationFault>
 /// # Errors
 /// The errors of [`PostPeer::close_import`], except `Tape(PendingFull)`, because a flush makes room; those of
 /// [`PostPeer::flush_or_rotate`].
-pub(crate) fn close<D: Disk>(peer: &mut PostPeer<D>) -> Result<u32, StationFault>
-    ensures source { IfOk result (λ source. source ≡ (ledger_of peer.old.station).closed + 1) }
+pub(crate) fn close<D: Disk>(peer: &mut PostPeer<D>) -> Result<ClosedSource, StationFault>
+    ensures source { IfOk result
+        (λ source. source.number ≡ (ledger_of peer.old.station).closed + 1) }
     ensures closed { OnOk result
         ((ledger_of peer.new.station ≡ closed (ledger_of peer.old.station))
         × IsFlushed peer.new.station) }
@@ -161,12 +164,13 @@ pub(crate) fn close<D: Disk>(peer: &mut PostPeer<D>) -> Result<u32, StationFault
 {
     let source = close_source(peer)?;
     peer.flush_or_rotate()?;
-    Ok(source)
+    Ok(ClosedSource::of(peer, source))
 }
 
 /// Takes in all lines of a file for this peer, as lines of the open source, closes that source, and flushes: once it
-/// returns `Ok`, they are acknowledged. The first line is line 1; a malformed one has a number, and owes nothing; a
-/// rest without LF is not a line. No more than one piece of the file is in memory.
+/// returns `Ok`, they are acknowledged, and the file is handed back as one that is no longer needed. The first line is
+/// line 1; a malformed one has a number, and owes nothing; a rest without LF is not a line. No more than one piece of
+/// the file is in memory.
 ///
 /// # Errors
 /// The file cannot be read further; the station's errors. What was taken in stays. Unless its last flush failed, the
@@ -174,29 +178,34 @@ pub(crate) fn close<D: Disk>(peer: &mut PostPeer<D>) -> Result<u32, StationFault
 pub fn take_in<D: Disk, R: Read + Drop>(
     alloc: Global,
     peer: &mut PostPeer<D>,
-    lines: &mut LineFile<R>,
-) -> Result<ImportReport, ImportFault>
-    ensures imports { (octets : List ℕ) → HasGiven lines.old [] []
-        → left_of lines.old ≡ Some octets → MatchResult result
-        (TakesIn octets (ledger_of peer.old.station) (ledger_of peer.new.station))
+    lines: LineFile<R>,
+) -> Result<TakenIn<R>, ImportFault>
+    ensures imports { (octets : List ℕ) → HasGiven lines [] []
+        → left_of lines ≡ Some octets → MatchResult result
+        (λ taken. TakesIn octets (ledger_of peer.old.station) (ledger_of peer.new.station)
+        taken.report)
         (TakesSome octets (ledger_of peer.old.station) (ledger_of peer.new.station)) }
+    ensures source { IfOk result
+        (λ taken. taken.source.number ≡ (ledger_of peer.old.station).closed + 1) }
     ensures flushed { OnOk result (IsFlushed peer.new.station) }
     ensures kinds { (fault : StationFault) → result ≡ Err (ImportFault.Station fault)
         → IsImportFault fault }
     ensures name { peer.new.name ≡ peer.old.name }
 {
+    let mut lines = lines;
     let mut import = Import::new(alloc);
     for _ in 0..u64::MAX {
         match lines.next_read() {
             Some(line) => import.take(peer, &line)?,
             None => {
                 if !lines.read_piece()? {
-                    close(peer)?;
+                    let source = close(peer)?;
                     let has_rest = lines.has_rest();
-                    return Ok(ImportReport {
+                    let report = ImportReport {
                         has_rest,
                         ..import.report()
-                    });
+                    };
+                    return Ok(TakenIn::new(lines, report, source));
                 }
             }
         }

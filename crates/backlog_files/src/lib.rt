@@ -6,13 +6,17 @@
 //! (`specs/Imports.antt`: [`take_in`]); what the system's files give is tested.
 #![tactic(auto)]
 
+mod closed_source;
 mod fault;
 mod files;
 mod import;
 mod import_report;
 mod same_file;
+mod taken_in;
 
+pub use closed_source::ClosedSource;
 pub use fault::{BacklogFault, ImportFault};
 pub use files::{BacklogFiles, Imported};
 pub use import::take_in;
 pub use import_report::ImportReport;
+pub use taken_in::TakenIn;

@@ -9,6 +9,7 @@ use crate::spool_sync::{SpoolSync, SyncedBuffers};
 use crate::start_and_end::{log_end, log_no_login, log_start};
 use crate::suspects::{keep_all, suspects_of};
 use crate::targets::{by_name, hosts_of, targets_of};
+use acknowledged_lines::Acknowledged;
 use article_store::SpoolDirectory;
 use disk_model::{FileDisk, TapeDirectory, TapeFile};
 use feed_conf::{Conf, PeerConf};
@@ -78,6 +79,8 @@ struct OpenTapes {
     confs: Vec<PeerConf>,
     peers: Vec<PostPeer<FileDisk<TapeFile>>>,
     intake: Tape<FileDisk<TapeFile>>,
+    // The lines that are acknowledged, as the intake's tape was opened.
+    acknowledged: Acknowledged,
 }
 
 // What the feeders are made of.
@@ -107,6 +110,8 @@ struct Taking<'a, F> {
     // The file that asks the run to end, if it follows its funnel.
     stop: Option<StopFile<'a, F>>,
     start: Instant,
+    // The lines that are acknowledged, as the intake's tape was opened.
+    acknowledged: Acknowledged,
 }
 
 // What is prepared before the threads start, besides the tapes.
@@ -160,6 +165,7 @@ pub(crate) fn feed<
         peers,
         left_out,
         intake,
+        acknowledged,
     } = open_tapes(
         env.rt,
         env.files,
@@ -175,6 +181,7 @@ pub(crate) fn feed<
         confs,
         peers,
         intake,
+        acknowledged,
     };
     let fed = feed_open(
         env,
@@ -233,10 +240,19 @@ fn feed_open<
         confs,
         peers,
         intake,
+        acknowledged,
     } = opened;
     let mut peers = peers;
     let taking = take_in(
-        env, backlogs, places, path, source, &confs, &mut peers, &intake, left_out,
+        env,
+        backlogs,
+        places,
+        path,
+        source,
+        &confs,
+        &mut peers,
+        acknowledged,
+        left_out,
     )?;
     let prepared = prepare(env, backlogs, places, &confs, taking, drops_missing)?;
     let peers = flush_stations(env.rt, env.files.alloc(), peers)?;
@@ -253,7 +269,7 @@ fn take_in<'a, R: Clock + Log, F: AllocGlobal + Files<File = File>, H, C: Net, L
     source: Source<'_>,
     confs: &[PeerConf],
     peers: &mut [PostPeer<FileDisk<TapeFile>>],
-    intake: &Tape<FileDisk<TapeFile>>,
+    acknowledged: Acknowledged,
     left_out: &[LeftOut],
 ) -> Result<Taking<'a, F>, RunError> {
     let limit = places.unknown_limit;
@@ -280,7 +296,7 @@ fn take_in<'a, R: Clock + Log, F: AllocGlobal + Files<File = File>, H, C: Net, L
         others,
         peers,
     )?;
-    let funnel = open_funnel(env.rt, env.files, &env.net, source, intake.mark())?;
+    let funnel = open_funnel(env.rt, env.files, &env.net, source, acknowledged.number())?;
     if stop.is_some()
         && let Some(funnel) = &funnel
     {
@@ -289,11 +305,20 @@ fn take_in<'a, R: Clock + Log, F: AllocGlobal + Files<File = File>, H, C: Net, L
             env.version,
             confs.len(),
             funnel.path(),
-            intake.mark(),
+            acknowledged.number(),
         );
         places.spool.log_missing(env.rt, env.files);
     }
-    taking_of(env, backlogs, places, confs, funnel, stop, keeper)
+    taking_of(
+        env,
+        backlogs,
+        places,
+        confs,
+        funnel,
+        stop,
+        keeper,
+        acknowledged,
+    )
 }
 
 // What is prepared besides the intake. What earlier runs have left there is logged.
@@ -423,6 +448,7 @@ fn taking_of<'a, R: Clock + Log, F: AllocGlobal + Files<File = File>, H, C, L>(
     funnel: Option<Funnel<'a, F>>,
     stop: Option<StopFile<'a, F>>,
     keeper: LineKeeper,
+    acknowledged: Acknowledged,
 ) -> Result<Taking<'a, F>, RunError> {
     let alloc = env.files.alloc();
     let start = match Instant::now(env.rt) {
@@ -441,6 +467,7 @@ fn taking_of<'a, R: Clock + Log, F: AllocGlobal + Files<File = File>, H, C, L>(
         status: Vec::from_slice(alloc, &places.status)?,
         stop,
         start,
+        acknowledged,
     })
 }
 
@@ -501,7 +528,6 @@ fn work<
     requires flushed { All (λ p. IsFlushed p.station) stations.items }
 {
     let alloc = env.files.alloc();
-    let acknowledged = intake.mark();
     let (post, share, one, other, third) = Post::<FileDisk<TapeFile>, N>::new(
         alloc, stations, intake, blanks,
     )?;
@@ -513,7 +539,6 @@ fn work<
     let tally = Arc::try_clone(&feeding.tally)?;
     let suspects = Arc::try_clone(&feeding.suspects)?;
     let feeders = feeders_of(env, feeding, (one, other))?;
-    let taker = (share, acknowledged);
     let named = NamedBuffers::new(alloc);
     run_workers(
         env,
@@ -522,7 +547,7 @@ fn work<
         feeders,
         Flusher::with_articles(third, SpoolSync::new(synced, &named)),
         taking,
-        taker,
+        share,
         &tally,
         &suspects,
         out,
@@ -532,7 +557,7 @@ fn work<
 }
 
 // Runs the threads of this post until all have ended, and adds to `end` what went wrong and what is still owed. The
-// intake has this share, and begins after the lines that are acknowledged.
+// intake has this share.
 fn run_workers<
     N: Naming + Send + Sync,
     R: AllocGlobal + Threads + Wait + Clock + Log + Send + Sync + 'static,
@@ -549,7 +574,7 @@ fn run_workers<
     feeders: Feeders<S, C, N>,
     flusher: Flusher<N, SpoolSync<'_>>,
     taking: Taking<'_, F>,
-    (share, acknowledged): (IntakeShare<N>, u64),
+    share: IntakeShare<N>,
     tally: &SpoolTally,
     suspects: &Suspects,
     out: &mut W,
@@ -570,6 +595,7 @@ fn run_workers<
         status,
         stop,
         start,
+        acknowledged,
     } = taking;
     let countdown = Countdown::new(2);
     let mut intake = IntakeWorker {
@@ -638,7 +664,7 @@ fn run_workers<
     }
     let is_asked = stop.as_ref().is_some_and(|stop| stop.was_seen());
     if is_asked && end.tapes.is_empty() && !end.lacks_resources {
-        log_end(env.rt, env.version, acknowledged);
+        log_end(env.rt, env.version, acknowledged.number());
     }
     remove_stop(env.rt, stop, end);
 }

@@ -1,1 +1,4 @@
+pub mod Articles
+pub mod Calls
 pub mod Places
+pub mod Texts

@@ -1,3 +1,4 @@
+pub mod Articles
 pub mod Blame
 pub mod Dropped
 pub mod Given

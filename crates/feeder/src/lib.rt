@@ -9,6 +9,7 @@
 //! peer is told to be down. Connections and links have theirs in `conn_core` and `event_loop`.
 #![tactic(auto)]
 
+mod article_source;
 mod blame;
 mod close_reason;
 mod connecting;
@@ -42,6 +43,7 @@ mod unread_paths;
 mod uptime;
 mod wake_reason;
 
+pub use article_source::{ArticleSource, texts_are_of_their_debts};
 pub use fault::FeederFault;
 pub use feeder::Feeder;
 pub use outages::Outages;

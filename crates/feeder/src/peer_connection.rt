@@ -1,9 +1,11 @@
 // One connection: its protocol state, its socket, and what it holds.
 ghost use Rattle.std.specs.Prelude.{◌≡◌, ◌++◌, ◌<◌, ◌≤◌, ◌/◌, IsSome, None, Some};
 ghost use Rattle.conn_core.specs.State.{untold_at};
+ghost use Rattle.feeder.specs.Articles.{AllStayFound, HandsInNothing, IsFoundFor, MayHandIn};
 ghost use Rattle.feeder.specs.Given.{outcomes_in};
 
 use crate::Spool;
+use crate::article_source::ArticleSource;
 use crate::blame::{Blame, ConnectionEnd};
 use crate::close_reason::{CloseReason, ObservedEnd, SessionStage, begins_with_code};
 use crate::deferrals::Deferrals;
@@ -17,9 +19,10 @@ use crate::setbacks::Failure;
 use crate::spool_tally::SpoolRule;
 use crate::unread_paths::UnreadPaths;
 use article_store::{Found, SpoolDirectory, StoreFault, Unsendable};
-use conn_core::{Conn, CxnId, Mode, Outcome, Ready, Reason};
+use conn_core::{Back, Conn, CxnId, Mode, Outcome, Ready, Reason};
+use conn_laws::articles::articles_are_of_their_debts;
 use event_loop::{Moved, SocketLink, put_out, take_in};
-use funnel::MsgId;
+use funnel::{MsgId, Token};
 use ledger_core::{Debt, Key};
 use log::Log;
 use mio::event::Event;
@@ -235,7 +238,9 @@ impl PeerConnection {
     }
 
     /// Its socket was reported ready. The first report that it can be written ends connecting, with success or not.
-    pub fn on_event(&mut self, event: &Event) {
+    pub fn on_event(&mut self, event: &Event)
+        ensures { HandsInNothing self.old.conn self.new.conn }
+    {
         self.is_dirty = true;
         self.link.on_event(event);
         if self.is_connecting && (event.is_writable() || event.is_error()) {
@@ -246,24 +251,35 @@ impl PeerConnection {
         }
     }
 
-    fn fail(&mut self, error: io::Error) {
+    fn fail(&mut self, error: io::Error)
+        ensures { HandsInNothing self.old.conn self.new.conn }
+    {
         self.is_connecting = false;
         self.failure = Some(error);
-        self.conn.broken();
+        break_conn(&mut self.conn);
     }
 
     /// A second has passed. If the host has not accepted it within 10 seconds, it is given up.
-    pub fn tick(&mut self, now: u64) {
+    pub fn tick(&mut self, now: u64)
+        ensures { HandsInNothing self.old.conn self.new.conn }
+    {
         self.is_dirty = true;
-        if self.is_connecting && now.saturating_sub(self.begun) >= CONNECTING_MAX_SECONDS {
-            self.fail(io::Error::from(ErrorKind::TimedOut));
-        }
-        self.conn.tick(now);
+        self.tick_connecting(now);
+        tick_conn(&mut self.conn, now);
         self.idle_since = if self.agreed.is_none() || self.holds_debts() {
             None
         } else {
             self.idle_since.or(Some(now))
         };
+    }
+
+    #[tactic(auto, using(crate::proofs::Calls::same_nothing))]
+    fn tick_connecting(&mut self, now: u64)
+        ensures { HandsInNothing self.old.conn self.new.conn }
+    {
+        if self.is_connecting && now.saturating_sub(self.begun) >= CONNECTING_MAX_SECONDS {
+            self.fail(io::Error::from(ErrorKind::TimedOut));
+        }
     }
 
     // For how many seconds it has held nothing, since its peer agreed to a mode.
@@ -276,7 +292,9 @@ impl PeerConnection {
 
     /// If it has held nothing for a minute, asks the peer to end it; if that takes too long, breaks it. Returns the
     /// room that it no longer counts as.
-    pub fn leave_idle(&mut self, now: u64) -> u64 {
+    pub fn leave_idle(&mut self, now: u64) -> u64
+        ensures { HandsInNothing self.old.conn self.new.conn }
+    {
         let idle = self.idle(now);
         if idle >= IDLE_MAX_SECONDS && !self.is_left {
             self.leave();
@@ -327,13 +345,15 @@ impl PeerConnection {
     }
 
     /// Asks the peer to end it in good order. If the peer has not agreed to a mode, breaks it.
-    pub fn leave(&mut self) {
+    pub fn leave(&mut self)
+        ensures { HandsInNothing self.old.conn self.new.conn }
+    {
         self.is_dirty = true;
         self.is_left = self.conn.closed().is_none();
         if self.agreed.is_some() {
-            self.conn.quit();
+            quit_conn(&mut self.conn);
         } else {
-            self.conn.broken();
+            break_conn(&mut self.conn);
         }
     }
 
@@ -343,25 +363,31 @@ impl PeerConnection {
     }
 
     /// Breaks it.
-    pub fn give_up(&mut self) {
+    pub fn give_up(&mut self)
+        ensures { HandsInNothing self.old.conn self.new.conn }
+    {
         self.is_left = true;
         self.end(ObservedEnd::ByUs);
-        self.conn.broken();
+        break_conn(&mut self.conn);
     }
 
     // Keeps what is seen of its end first.
-    fn end(&mut self, ended: ObservedEnd) {
+    fn end(&mut self, ended: ObservedEnd)
+        ensures { self.new.conn ≡ self.old.conn }
+    {
         if matches!(self.ended, ObservedEnd::Unseen) {
             self.ended = ended;
         }
     }
 
-    pub fn receive(&mut self, buffer: &mut [u8]) {
+    pub fn receive(&mut self, buffer: &mut [u8])
+        ensures { HandsInNothing self.old.conn self.new.conn }
+    {
         for _ in 0..CALLS_MAX {
             if self.conn.closed().is_some() {
                 return;
             }
-            match take_in(&mut self.conn, &mut self.link, buffer) {
+            match receive_once(&mut self.conn, &mut self.link, buffer) {
                 Moved::Done(count) => self.on_received(buffer.get(..count).unwrap_or(&[])),
                 Moved::Later => return,
                 Moved::Closed => return self.end(ObservedEnd::ByPeer),
@@ -372,7 +398,9 @@ impl PeerConnection {
     }
 
     // These octets were taken in.
-    fn on_received(&mut self, octets: &[u8]) {
+    fn on_received(&mut self, octets: &[u8])
+        ensures { self.new.conn ≡ self.old.conn }
+    {
         match self.conn.closed() {
             None => {
                 self.has_greeted = self.has_greeted || octets.contains(&b'\n');
@@ -386,14 +414,18 @@ impl PeerConnection {
 
     // It closed because some of these octets, or of the line that they end, are no reply. Nothing more is known if
     // memory is refused.
-    fn on_invalid(&mut self, octets: &[u8]) {
+    fn on_invalid(&mut self, octets: &[u8])
+        ensures { self.new.conn ≡ self.old.conn }
+    {
         if let Ok(text) = joined(self.alloc, self.line_head.octets(), octets) {
             self.has_greeted = self.has_greeted || begins_with_reply(&text);
             self.end(ObservedEnd::invalid_reply(self.alloc, &text));
         }
     }
 
-    fn fail_link(&mut self) {
+    fn fail_link(&mut self)
+        ensures { self.new.conn ≡ self.old.conn }
+    {
         match self.link.take_fault() {
             Some(error) => self.end(ObservedEnd::Fault(error)),
             None => self.end(ObservedEnd::ByPeer),
@@ -401,10 +433,12 @@ impl PeerConnection {
     }
 
     /// Sends the output, and returns how many octets were sent.
-    pub fn send(&mut self) -> u64 {
+    pub fn send(&mut self) -> u64
+        ensures { HandsInNothing self.old.conn self.new.conn }
+    {
         let mut sent = 0u64;
         for _ in 0..CALLS_MAX {
-            match put_out(&mut self.conn, &mut self.link) {
+            match send_once(&mut self.conn, &mut self.link) {
                 Moved::Done(count) => sent = sent.saturating_add(count as u64),
                 Moved::Later => return sent,
                 Moved::Closed | Moved::Fault => {
@@ -428,6 +462,7 @@ impl PeerConnection {
         ensures kept { IsSome self.old.kept → result ≡ self.old.kept }
         ensures given { self.old.kept ≡ None → untold_at self.old.conn
             ≡ outcomes_in result ++ untold_at self.new.conn }
+        ensures nothing { HandsInNothing self.old.conn self.new.conn }
     {
         if let Some(kept) = self.kept.take() {
             return Some(kept);
@@ -450,8 +485,10 @@ impl PeerConnection {
     }
 
     /// Offers a debt to the peer. A debt that is refused is kept, to go back.
-    pub fn offer(&mut self, debt: Debt) {
-        match self.conn.offer(debt) {
+    pub fn offer(&mut self, debt: Debt)
+        ensures { HandsInNothing self.old.conn self.new.conn }
+    {
+        match offer_to(&mut self.conn, debt) {
             Ok(()) => {
                 self.held = self.held.saturating_add(1);
                 self.idle_since = None;
@@ -542,14 +579,17 @@ impl PeerConnection {
 
     /// Hands in the articles that are wanted, until there is enough output, half a window of articles at most: so the
     /// peer works on one half while the other is read. It closes if one can't be read. Returns false if the spool is
-    /// missing, or counts as missing: then none is handed in.
-    pub fn hand_in<R: Log, S: SpoolDirectory>(
+    /// missing, or counts as missing: then none is handed in. What is handed in for each debt is what the source gives
+    /// for its token and its message-id.
+    pub fn hand_in<R: Log, A: ArticleSource>(
         &mut self,
         rt: &R,
-        spool: &mut Spool<S>,
+        spool: &mut Spool<A>,
         rule: SpoolRule<'_>,
         unread: &mut UnreadPaths,
-    ) -> bool {
+    ) -> bool
+        ensures { AllStayFound (IsFoundFor A.gives) self.old.conn self.new.conn }
+    {
         for _ in 0..half_of(self.owner.room) {
             if self.conn.output().len() >= OUTPUT_ENOUGH_OCTETS {
                 return true;
@@ -564,32 +604,28 @@ impl PeerConnection {
     }
 
     // Hands in the article that was wanted first. If memory is refused, the connection breaks and nothing is logged.
-    fn hand<R: Log, S: SpoolDirectory>(
+    fn hand<R: Log, A: ArticleSource>(
         &mut self,
         rt: &R,
-        spool: &mut Spool<S>,
+        spool: &mut Spool<A>,
         rule: SpoolRule<'_>,
         unread: &mut UnreadPaths,
-    ) -> HandInResult {
+    ) -> HandInResult
+        ensures { AllStayFound (IsFoundFor A.gives) self.old.conn self.new.conn }
+    {
+        articles_are_of_their_debts();
         let Some(debt) = self.conn.wanted() else {
             return HandInResult::None;
         };
         let key = debt.key();
-        match spool.store.fetch_for(debt.token(), debt.id()) {
-            Ok(Found::Gone) if !spool.store.is_there() => {
-                let _ = unread.add(self.alloc, &spool.path, None);
-                return self.break_for_spool(ObservedEnd::NoSpool);
-            }
-            Ok(Found::Gone) if rule.is_out_of_reach(debt.token()) => {
-                let _ = unread.add(self.alloc, &spool.path, None);
-                self.unread = Some(key);
-                return self.break_for_spool(ObservedEnd::NoneFound);
-            }
+        match spool.store.article_of(debt) {
             Ok(found) => {
-                self.note_found(key, &found, &mut spool.store, rule);
-                if self.conn.article(key, found).is_ok() {
-                    return HandInResult::One;
+                if let Some(ended) = spool_end(&found, &spool.store, rule, debt.token()) {
+                    let _ = unread.add(self.alloc, &spool.path, None);
+                    return self.break_for_spool(key, ended);
                 }
+                self.note_found(key, &found, &mut spool.store, rule);
+                give(&mut self.conn, key, found)
             }
             Err(StoreFault::Disk) => {
                 let reason = spool.store.take_reason();
@@ -597,19 +633,35 @@ impl PeerConnection {
                 let is_new = unread.add(self.alloc, &spool.path, article);
                 log_unread(rt, &spool.path, debt.token(), reason.as_ref(), is_new);
                 self.unread = Some(key);
-                self.end(ObservedEnd::Unread(reason));
+                self.break_off(ObservedEnd::Unread(reason));
+                HandInResult::None
             }
-            Err(StoreFault::NoMemory) => {}
+            Err(StoreFault::NoMemory) => {
+                break_conn(&mut self.conn);
+                HandInResult::None
+            }
         }
-        self.conn.broken();
-        HandInResult::None
     }
 
-    // Breaks it, because the spool is missing or counts as missing.
-    fn break_for_spool(&mut self, ended: ObservedEnd) -> HandInResult {
-        self.end(ended);
-        self.conn.broken();
+    // Breaks it, because the spool is missing, or counts as missing since it has no article of this debt.
+    fn break_for_spool(&mut self, key: Key, ended: ObservedEnd) -> HandInResult
+        ensures { HandsInNothing self.old.conn self.new.conn }
+    {
+        let unread = match ended {
+            ObservedEnd::NoneFound => Some(key),
+            _ => self.unread,
+        };
+        self.unread = unread;
+        self.break_off(ended);
         HandInResult::OutOfReach
+    }
+
+    // Breaks it, because of this.
+    fn break_off(&mut self, ended: ObservedEnd)
+        ensures { HandsInNothing self.old.conn self.new.conn }
+    {
+        self.end(ended);
+        break_conn(&mut self.conn);
     }
 
     // Notes what is to be known of the article of this debt: that one was found, or why it cannot be sent. If memory is
@@ -620,7 +672,9 @@ impl PeerConnection {
         found: &Found,
         store: &mut S,
         rule: SpoolRule<'_>,
-    ) {
+    )
+        ensures { self.new.conn ≡ self.old.conn }
+    {
         match found {
             Found::Article(_) => rule.tally.set_found(),
             Found::Gone => {}
@@ -631,6 +685,67 @@ impl PeerConnection {
             }
         }
     }
+}
+
+// Why the spool is missing or counts as missing, if an article that is gone shows that.
+fn spool_end<S: SpoolDirectory>(
+    found: &Found,
+    store: &S,
+    rule: SpoolRule<'_>,
+    token: &Token,
+) -> Option<ObservedEnd> {
+    match found {
+        Found::Gone if !store.is_there() => Some(ObservedEnd::NoSpool),
+        Found::Gone if rule.is_out_of_reach(token) => Some(ObservedEnd::NoneFound),
+        _ => None,
+    }
+}
+
+// Hands in what was found, for the first want of that key. If memory is refused, the connection breaks.
+fn give(conn: &mut Conn, key: Key, found: Found) -> HandInResult
+    ensures { MayHandIn key found conn.old conn.new }
+{
+    if conn.article(key, found).is_ok() {
+        return HandInResult::One;
+    }
+    break_conn(conn);
+    HandInResult::None
+}
+
+fn break_conn(conn: &mut Conn)
+    ensures { HandsInNothing conn.old conn.new }
+{
+    conn.broken();
+}
+
+fn quit_conn(conn: &mut Conn)
+    ensures { HandsInNothing conn.old conn.new }
+{
+    conn.quit();
+}
+
+fn tick_conn(conn: &mut Conn, now: u64)
+    ensures { HandsInNothing conn.old conn.new }
+{
+    conn.tick(now);
+}
+
+fn offer_to(conn: &mut Conn, debt: Debt) -> Result<(), Back>
+    ensures { HandsInNothing conn.old conn.new }
+{
+    conn.offer(debt)
+}
+
+fn send_once(conn: &mut Conn, link: &mut SocketLink) -> Moved
+    ensures { HandsInNothing conn.old conn.new }
+{
+    put_out(conn, link)
+}
+
+fn receive_once(conn: &mut Conn, link: &mut SocketLink, buffer: &mut [u8]) -> Moved
+    ensures { HandsInNothing conn.old conn.new }
+{
+    take_in(conn, link, buffer)
 }
 
 // The one after the other.

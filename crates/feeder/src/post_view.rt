@@ -1,6 +1,7 @@
 // A post as one feeder uses it in one turn, and what becomes of debts on their way to it.
 ghost use Rattle.std.specs.Prelude.{◌≡◌, ◌++◌, IfErr};
 ghost use Rattle.conn_core.specs.State.{untold_at};
+ghost use Rattle.feeder.specs.Articles.{HandsInNothing};
 ghost use Rattle.feeder.specs.Given.{IsReturned, outcomes_in};
 
 use crate::FeederFault;
@@ -23,7 +24,8 @@ pub(crate) struct GivenOutcome {
 impl GivenOutcome {
     /// The next one of a connection.
     pub fn next(conn: &mut Conn) -> Option<Self>
-        ensures { untold_at conn.old ≡ outcomes_in result ++ untold_at conn.new }
+        ensures given { untold_at conn.old ≡ outcomes_in result ++ untold_at conn.new }
+        ensures nothing { HandsInNothing conn.old conn.new }
     {
         match conn.outcome() {
             Some(outcome) => Some(GivenOutcome { outcome }),

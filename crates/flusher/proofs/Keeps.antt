@@ -1,5 +1,5 @@
 -- What a station's lock keeps is kept by the station's calls.
-use Rattle.std.proofs.Common.{◌≡◌, ℕ, ◌+◌, refl, sym, ◌∙◌, subst}
+use Rattle.std.proofs.Common.{◌≡◌, ℕ, ◌+◌, refl, sym, ◌∙◌, subst, arith, length, length-drop}
 use Rattle.std.specs.Prelude.{Result, IfOk, ◌≢◌, OnOk, OnErr, Ok, Err, ◌↔◌}
 use Rattle.std.proofs.Math.Logic.{∥∥₁_map}
 use Rattle.disk_model.specs.declared.Disk.{Ghosts}
@@ -14,7 +14,9 @@ use Rattle.peer_queue.specs.declared.fault.StationFault.TheVariants.{Tape as OfT
 use Rattle.recovery.specs.declared.fault.TapeFault.TheVariants.{Disk, TapeFull}
 use Rattle.peer_queue.specs.declared.limits.Owed.{Owed}
 use Rattle.peer_queue.specs.declared.limits.Owed.TheVariants.{Already, New}
-use Rattle.flusher.specs.Kept.{IsKept}
+use Rattle.flusher.specs.Kept.{HasAllOnDisks, IsKept}
+use Rattle.flusher.specs.Sealed.{IsFlushed}
+use Rattle.note_queue.specs.OwnsLaws.{all_on_disks}
 
 full_or_disk : OfTape TapeFull ≡ OfTape Disk → ⊥
 full_or_disk same = cc
@@ -66,3 +68,19 @@ module _ {D : Type 0} {g : Ghosts D} where
       → ((h : History) → StandsFor old h → OnOk result (StandsFor new (flushed h)))
       → ((h : History) → StandsFor old h → OnErr result (StandsFor new h)) → ∥ IsKept old ∥₁ → ∥ IsKept new ∥₁
   keeps_flushed old new result honest ok err kept = ∥∥₁_map kept (flushed_kept old new result honest ok err)
+
+  all_kept : (station : Station D g) (h : History) → StandsFor station h → IsFlushed station → h.kept ≡ length h.notes
+  all_kept station h stands is =
+      omega (
+        arith,
+        (stands.working is.works).pending_count,
+        length-drop h.kept h.notes,
+        is.none_pends,
+        stands.kept_within,
+      )
+
+  -- what a station has noted and flushed is on its disks
+  pub kept_flushed : (station : Station D g) → ∥ IsKept station ∥₁ → HasAllOnDisks station
+  kept_flushed station kept is honest =
+      ∥∥₁_map kept (λ has. let k = has honest in
+      all_on_disks (tape_of station) k.0 k.1 (all_kept station k.0 k.1 is))

@@ -1,11 +1,12 @@
 -- What a claim leaves of a front.
-use Rattle.std.specs.Prelude.{◌≡◌, ◌⊎◌, ℕ, None, Some}
+use Rattle.std.specs.Prelude.{◌≡◌, ◌⊎◌, ℕ, Option, None, Some}
 use Rattle.flusher.specs.declared.front_desk.Claimed.{Claimed}
 use Rattle.flusher.specs.declared.front_desk.Claimed.TheVariants.{Nothing, Debt, ReadBefore, OnTape}
 use Rattle.peer_queue.specs.Front.{IsBroken, IsSame, KeepsNotes, places_of}
 use Rattle.peer_queue.specs.FrontCalls.{IsTextOf}
-use Rattle.peer_queue.specs.DebtPlace.{Held, IsHeldBy, Ready, least_candidate, moved}
+use Rattle.peer_queue.specs.DebtPlace.{Held, IsHeldBy, Ready, held_count, least_candidate, moved, released}
 use Rattle.peer_queue.specs.declared.front.Front.{Front}
+use Rattle.ledger_core.specs.State.{Owing}
 
 -- the least candidate is held by the connection
 pub record Holds (connection now key : ℕ) (old new : Front) : Type 0 where
@@ -35,3 +36,14 @@ pub record Unclaims (connection key : ℕ) (old new : Front) : Type 0 where
       → KeepsNotes old new × (places_of new ≡ moved (places_of old) key Ready)
   pub broken : IsBroken old → IsSame old new
   pub not_held : (IsHeldBy (places_of old) connection key → ⊥) → IsSame old new
+
+-- What a claim hands out: no debt, if there is no candidate; or the least one, which the connection holds from then on.
+abbrev pub HandsOut : (connection now : ℕ) → Option Owing → Front → Front → Type 0
+HandsOut connection now None old new = (least_candidate now (places_of old) ≡ None) × (places_of new ≡ places_of old)
+HandsOut connection now (Some debt) old new = Holds connection now debt.0 old new
+
+-- all debts that the connection held are ready, and so many are they
+pub record Releases (connection count : ℕ) (old new : Front) : Type 0 where
+  pub held : count ≡ held_count connection (places_of old)
+  pub places : places_of new ≡ released connection (places_of old)
+  pub keeps : KeepsNotes old new

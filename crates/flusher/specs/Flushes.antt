@@ -4,6 +4,9 @@ use Rattle.disk_model.specs.declared.Disk.{Ghosts}
 use Rattle.flusher.specs.Room.{HasNoRoom}
 use Rattle.flusher.specs.declared.tape_desk.Flush.{Flush}
 use Rattle.ledger_core.specs.Ledger.{totals_of}
+use Rattle.note_queue.specs.Ends.{IsOnDisks}
+use Rattle.note_queue.specs.Words.{tape_of}
+use Rattle.note_queue.specs.declared.side.Side.{Side}
 use Rattle.peer_queue.specs.Faults.{IsFlushFault as IsStationFlushFault}
 use Rattle.peer_queue.specs.Words.{IsBroken as IsBrokenStation, IsRead as IsReadStation, IsSame}
 use Rattle.peer_queue.specs.declared.fault.StationFault.{StationFault}
@@ -19,12 +22,14 @@ use Rattle.recovery.specs.declared.fault.TapeFault.TheVariants.{Broken, Disk, Ta
 use Rattle.recovery.specs.declared.tape.Tape.{Tape}
 
 module _ {D : Type 0} {g : Ghosts D} where
-  -- Nothing pends at the tape, and this is its place, how many of its notes are on the disks, and what it counts.
-  pub record IsFlushOf (tape : Tape D g) (flush : Flush) : Type 0 where
-    pub place : flush.flushed.place ≡ place_of tape
-    pub count : flush.flushed.count ≡ flushed_of tape
-    pub totals : flush.totals ≡ totals_of (ledger_of tape)
-    pub none_pends : pending_of tape ≡ 0
+  -- Nothing pends at a side's tape, and this is its place, how many of its notes are on the disks, and what it counts.
+  pub record IsFlushOf (side : Side D g) (flush : Flush) : Type 0 where
+    pub place : flush.flushed.place ≡ place_of (tape_of side)
+    pub count : flush.flushed.count ≡ flushed_of (tape_of side)
+    pub totals : flush.totals ≡ totals_of (ledger_of (tape_of side))
+    pub none_pends : pending_of (tape_of side) ≡ 0
+    -- so many notes are on the disks: those before the split, and each that the side has put on the tape
+    pub on_disks : IsOnDisks side flush.flushed.count
 
   -- What comes of the flush of a tape that stood for this history, be it rewritten or not; a caller has its own name
   -- for a disk's fault.

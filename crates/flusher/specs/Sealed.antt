@@ -1,5 +1,5 @@
 -- What a receipt is made of.
-use Rattle.std.specs.Prelude.{◌≡◌, ◌≤◌, ◌+◌, ◌-◌, ◌^◌, ℕ, min}
+use Rattle.std.specs.Prelude.{◌≡◌, ◌<◌, ◌≤◌, ◌+◌, ◌-◌, ◌^◌, ℕ, Bool, List, false, min, slice_index_or, true}
 use Rattle.disk_model.specs.declared.Disk.{Ghosts}
 use Rattle.peer_queue.specs.Front.{pending_of as front_pending, settled_of}
 use Rattle.peer_queue.specs.Words.{IsBroken, pending_of}
@@ -15,6 +15,10 @@ noted_at front = min (settled_of front + front_pending front) (2 ^ 64 - 1)
 -- `count` of the front's notes, or more, are settled, as its tape counts them
 abbrev pub HasSettled : ℕ → Front → Type 0
 HasSettled count front = count ≤ settled_of front
+
+-- all is settled at each of the first `count` places, by these flags of the places
+abbrev pub IsDoneBelow : ℕ → List Bool → Type 0
+IsDoneBelow count done = (place : ℕ) → place < count → slice_index_or done place false ≡ true
 
 module _ {D : Type 0} {g : Ghosts D} where
   -- the station works, and all its notes are acknowledged

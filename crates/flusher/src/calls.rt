@@ -1,13 +1,16 @@
 // What workers ask of a post.
 ghost use Rattle.std.specs.Prelude.{◌≡◌, ◌≢◌, ◌↔◌, ◌⊎◌, ◌+◌, ◌-◌, ◌<◌, ◌^◌};
-ghost use Rattle.std.specs.Prelude.{[], IfErr, IfOk, IsErrAnd, IsErrOf, OnErr, OnOk, length};
+ghost use Rattle.std.specs.Prelude.{[], IfErr, IfOk, IfSome, IsErrAnd, IsErrOf, OnErr, OnOk, length};
 ghost use Rattle.std.specs.Sync.Mutex.{mutex_guard_value};
 ghost use Rattle.crossbeam_queue.specs.Passes.{view};
+ghost use Rattle.flusher.specs.Claims.{Releases};
 ghost use Rattle.flusher.specs.Counted.{IsCounted};
 ghost use Rattle.flusher.specs.Faults.{IsOfStation, IsPutOffFault, IsShedFault};
+ghost use Rattle.flusher.specs.Moments.{AtSomeMoment, HoldsStray, IsStray};
 ghost use Rattle.flusher.specs.Refuses.{RefusesHeldOf, RefusesOutcomeOf, ThenSent};
 ghost use Rattle.flusher.specs.Reports.{KeepsReport};
 ghost use Rattle.flusher.specs.Room.{IsCountFull};
+ghost use Rattle.flusher.specs.Sent.{IsSent};
 ghost use Rattle.note_queue.specs.Noted.{IsOnlySent};
 ghost use Rattle.note_queue.specs.Relay.{Relayed, WasSeen};
 ghost use Rattle.note_queue.specs.Words.{front_of, sending};
@@ -17,7 +20,8 @@ ghost use Rattle.peer_queue.specs.FrontCalls.{Finishes, Sheds};
 ghost use Rattle.peer_queue.specs.DebtPlace.{moved, place_until};
 ghost use Rattle.peer_queue.specs.declared.fault.StationFault.{StationFault};
 
-use crate::front_desk::FrontDesk;
+use crate::front_desk::{FrontDesk, NoCopy};
+use crate::noted::Noted;
 use crate::share::FeederShare;
 use crate::tally::Tally;
 use crate::tape_desk::TapeDesk;
@@ -25,7 +29,7 @@ use crate::{Naming, Post, PostFault, Reported};
 use conn_core::{CxnId, Outcome};
 use disk_model::Disk;
 use ledger_core::{Debt, Totals};
-use peer_queue::{Settled, Shed};
+use peer_queue::{Settled, Shed, StationFault};
 use recovery::PENDING_MAX_NOTES;
 use std::hint::spin_loop;
 use std::sync::atomic::Ordering;
@@ -123,6 +127,19 @@ impl<D: Disk, N: Naming> Post<D, N> {
         }
     }
 
+    // This peer's own front. `Stranger` if its lock held another's, which no run meets.
+    pub(crate) fn own_front<R: Wait>(
+        &self,
+        rt: &R,
+        peer: usize,
+    ) -> Result<MutexGuard<'_, FrontDesk<N>>, PostFault>
+        requires { peer < length self.now.names }
+        ensures own { IfOk result (λ desk. (mutex_guard_value desk).seat.place ≡ peer) }
+        ensures stray { IfErr result (IsStray N N.Naming peer) }
+    {
+        own(peer, self.front(rt, peer))
+    }
+
     // The tally of what has ended. It, too, soon is free.
     fn ended<R: Wait>(&self, rt: &R) -> MutexGuard<'_, Tally<N>> {
         match free(&self.ended, LOOKS_MAX) {
@@ -161,25 +178,48 @@ impl<D: Disk, N: Naming> Post<D, N> {
         if desk.seat.place != peer {
             return Err(PostFault::Stranger { peer });
         }
-        match desk.send(rt, &self.peers[peer].queue) {
+        match self.send_own(rt, peer, desk) {
             Ok(()) => Ok(()),
             Err(_) => Err(PostFault::NoMemory),
         }
     }
 
-    /// Makes all debts ready that this connection held, and returns how many.
+    // Sends what this peer's front has not sent to its tape, in order, until the queue is full.
+    fn send_own<R: Wait>(&self, rt: &R, peer: usize, desk: &mut FrontDesk<N>) -> Result<(), NoCopy>
+        requires peer { peer < length self.now.names }
+        requires own { desk.old.seat.place ≡ peer }
+        ensures sends { IsOnlySent (front_of desk.old.seat.sender) (front_of desk.new.seat.sender) }
+        ensures ok { OnOk result (IsSent desk.new.seat.sender) }
+        ensures err { OnErr result (unsent_of (front_of desk.new.seat.sender) ≢ []) }
+        ensures keeps_report { KeepsReport desk.old desk.new }
+    {
+        desk.send(rt, &self.peers[peer].queue)
+    }
+
+    /// Makes all debts ready that this connection held, and returns how many. At another peer's front, which no run
+    /// meets, it does nothing.
     pub fn release<R: Wait>(&self, rt: &R, peer: usize, connection: CxnId) -> u64
         requires { peer < length self.now.names }
+        ensures releases { AtSomeMoment N N.Naming peer (Releases connection.0 result)
+            ⊎ ((result ≡ 0) × HoldsStray N N.Naming peer) }
     {
-        self.peers[peer].front.lock(rt).release(connection)
+        match self.own_front(rt, peer) {
+            Ok(mut desk) => desk.release(connection),
+            Err(_) => 0,
+        }
     }
 
     /// [`Post::release`], but waits for nobody: `None` if the peer's front is in use, and nothing has changed.
     pub fn try_release(&self, peer: usize, connection: CxnId) -> Option<u64>
         requires { peer < length self.now.names }
+        ensures releases { IfSome result
+            (λ count. AtSomeMoment N N.Naming peer (Releases connection.0 count)
+            ⊎ ((count ≡ 0) × HoldsStray N N.Naming peer)) }
     {
-        let mut desk = self.free_front(peer)?;
-        Some(desk.release(connection))
+        match own(peer, self.free_front(peer)?) {
+            Ok(mut desk) => Some(desk.release(connection)),
+            Err(_) => Some(0),
+        }
     }
 
     /// Takes a debt back to its peer's station, and makes it wait until this moment; until 0 is no wait: it is ready.
@@ -277,8 +317,15 @@ impl<D: Disk, N: Naming> Post<D, N> {
             (λ e. (e.1 ≡ PostFault.CountFull) ⊎ IsOfStation peer IsEndFault e.1) }
         ensures unchanged { OnErr result
             ((mine.new.answered ≡ mine.old.answered) × (mine.new.dropped ≡ mine.old.dropped)) }
+        ensures finishes { OnOk result (AtSomeMoment N N.Naming peer
+            (λ old. ThenSent (Finishes connection.0 now outcome old))) }
+        ensures front { OnErr result
+            (AtSomeMoment N N.Naming peer (λ old. ThenSent (IsSame old))
+            ⊎ HoldsStray N N.Naming peer) }
     {
-        let mut desk = self.front(rt, peer);
+        let Ok(mut desk) = self.own_front(rt, peer) else {
+            return Err((outcome, not_held(peer)));
+        };
         self.finish_at(rt, peer, &mut desk, connection, outcome, now, mine)
     }
 
@@ -293,7 +340,8 @@ impl<D: Disk, N: Naming> Post<D, N> {
         now: u64,
         mine: &mut FeederShare<N>,
     ) -> Result<Settled, (Outcome, PostFault)>
-        requires { peer < length self.now.names }
+        requires peer { peer < length self.now.names }
+        requires own { desk.old.seat.place ≡ peer }
         ensures ok { OnOk result (ThenSent
             (Finishes connection.0 now outcome (front_of desk.old.seat.sender))
             (front_of desk.new.seat.sender)) }
@@ -314,8 +362,8 @@ impl<D: Disk, N: Naming> Post<D, N> {
         let before = desk.pending();
         let finished = self.finish_counted(rt, peer, desk, connection, outcome, now, mine);
         self.note_half_full(peer, before, desk.pending());
-        let _ = self.send(rt, peer, desk);
-        finished
+        let sent = self.send_own(rt, peer, desk);
+        finished.once_sent(desk, sent)
     }
 
     // Takes a connection's outcome of a debt to its peer's front, and counts in the tally what became of it.
@@ -328,9 +376,10 @@ impl<D: Disk, N: Naming> Post<D, N> {
         outcome: Outcome,
         now: u64,
         mine: &mut FeederShare<N>,
-    ) -> Result<Settled, (Outcome, PostFault)>
+    ) -> Noted<Result<Settled, (Outcome, PostFault)>>
         ensures ok { OnOk result (Finishes connection.0 now outcome
             (front_of desk.old.seat.sender) (front_of desk.new.seat.sender)) }
+        ensures place { desk.new.seat.place ≡ desk.old.seat.place }
         ensures front { OnErr result
             (IsSame (front_of desk.old.seat.sender) (front_of desk.new.seat.sender)) }
         ensures refuses { IsErrAnd result (λ e. e.1 ≡ PostFault.CountFull)
@@ -428,7 +477,8 @@ fn finish_in<N: Naming, R: Wait>(
     outcome: Outcome,
     now: u64,
     mine: &mut FeederShare<N>,
-) -> Result<Settled, (Outcome, PostFault)>
+) -> Noted<Result<Settled, (Outcome, PostFault)>>
+    ensures place { desk.new.seat.place ≡ desk.old.seat.place }
     ensures ok { OnOk result (Finishes connection.0 now outcome
         (front_of desk.old.seat.sender) (front_of desk.new.seat.sender)) }
     ensures front { OnErr result
@@ -449,13 +499,37 @@ fn finish_in<N: Naming, R: Wait>(
     ensures keeps_report { KeepsReport desk.old desk.new }
 {
     if !tally.has_room() {
-        return Err((outcome, PostFault::CountFull));
+        return Noted::new(Err((outcome, PostFault::CountFull)));
     }
     let finished = desk.finish(rt, ended, tally, mine, connection, outcome, now);
     match finished {
-        Ok(settled) => Ok(settled),
-        Err((outcome, fault)) => Err((outcome, PostFault::Station { peer, fault })),
+        Ok(settled) => Noted::new(Ok(settled)),
+        Err((outcome, fault)) => Noted::new(Err((outcome, PostFault::Station { peer, fault }))),
     }
+}
+
+// The answer to an outcome whose peer's front was not found: nobody holds the debt there.
+fn not_held(peer: usize) -> PostFault
+    ensures { result ≡ PostFault.Station peer StationFault.NotHeld }
+{
+    PostFault::Station {
+        peer,
+        fault: StationFault::NotHeld,
+    }
+}
+
+// What the lock of a peer's front held, if it is that peer's front.
+fn own<'a, N: Naming>(
+    peer: usize,
+    desk: MutexGuard<'a, FrontDesk<N>>,
+) -> Result<MutexGuard<'a, FrontDesk<N>>, PostFault>
+    ensures own { IfOk result (λ desk. (mutex_guard_value desk).seat.place ≡ peer) }
+    ensures stray { IfErr result (IsStray N N.Naming peer) }
+{
+    if desk.seat.place != peer {
+        return Err(PostFault::Stranger { peer });
+    }
+    Ok(desk)
 }
 
 // What a lock keeps, if the lock is found free at one of so many looks.

@@ -1,8 +1,9 @@
 // Debts, claimed by connections.
 ghost use Rattle.std.specs.Prelude.{◌≡◌, ◌≢◌, ◌↔◌, ◌<◌, ◌⊎◌, length};
-ghost use Rattle.std.specs.Prelude.{Err, IfErr, IfOk, IsErrOf, MatchOption, MatchResult, Ok, OnErr, Some};
-ghost use Rattle.flusher.specs.Claims.{Claims, GivesBack};
+ghost use Rattle.std.specs.Prelude.{Err, IfErr, IfOk, IsErrOf, Ok, OnErr, Some};
+ghost use Rattle.flusher.specs.Claims.{Claims, GivesBack, HandsOut, Unclaims};
 ghost use Rattle.flusher.specs.Faults.{IsOfPeer, IsOfStation};
+ghost use Rattle.flusher.specs.Moments.{AtSomeMoment, HoldsNoKey, IsStray};
 ghost use Rattle.flusher.specs.Refuses.{RefusesClaimOf};
 ghost use Rattle.flusher.specs.Reports.{KeepsReport};
 ghost use Rattle.ledger_core.specs.Index.{debt_at};
@@ -39,15 +40,23 @@ impl<D: Disk, N: Naming> Post<D, N> {
         now: u64,
     ) -> Result<Option<Debt>, PostFault>
         requires { peer < length self.now.names }
+        ensures claims { IfOk result
+            (λ debt. AtSomeMoment N N.Naming peer (HandsOut connection.0 now debt)) }
+        ensures given_back { IfErr result (λ e. HoldsNoKey N N.Naming peer connection.0 now
+            ⊎ IsStray N N.Naming peer e) }
         ensures kinds { IfErr result (IsOfPeer peer IsClaimFault) }
     {
-        let claimed = claim_at(peer, &mut self.front(rt, peer), connection, now)?;
+        let (claimed, _) = self.claimed(rt, peer, connection, now)?;
         match claimed {
             Claimed::Nothing => Ok(None),
-            Claimed::Debt(debt) | Claimed::ReadBefore(debt) => Ok(Some(debt)),
+            Claimed::Debt(debt) => Ok(Some(debt)),
+            Claimed::ReadBefore(debt) => Ok(Some(debt)),
             Claimed::OnTape(key) => {
-                let read = read_at(peer, &mut self.peers[peer].tape.lock(rt), key);
-                self.handed(rt, peer, connection, key, read)
+                let read = self.read(rt, peer, key);
+                match self.handed(rt, peer, connection, key, read) {
+                    Ok(debt) => Ok(Some(debt)),
+                    Err(fault) => Err(fault),
+                }
             }
         }
     }
@@ -65,13 +74,14 @@ impl<D: Disk, N: Naming> Post<D, N> {
         now: u64,
     ) -> Result<Option<Debt>, PostFault>
         requires { peer < length self.now.names }
+        ensures claims { IfOk result
+            (λ debt. AtSomeMoment N N.Naming peer (HandsOut connection.0 now debt)) }
+        ensures given_back { IfErr result (λ e. HoldsNoKey N N.Naming peer connection.0 now
+            ⊎ IsStray N N.Naming peer e) }
         ensures kinds { IfErr result
             (λ e. (e ≡ PostFault.Busy peer) ⊎ IsOfPeer peer IsClaimFault e) }
     {
-        let mut front = self.front(rt, peer);
-        let claimed = claim_at(peer, &mut front, connection, now)?;
-        let wants_more = front.wants_more();
-        drop(front);
+        let (claimed, wants_more) = self.claimed(rt, peer, connection, now)?;
         match claimed {
             Claimed::Nothing => Ok(None),
             Claimed::Debt(debt) => Ok(Some(debt)),
@@ -82,19 +92,58 @@ impl<D: Disk, N: Naming> Post<D, N> {
                 Ok(Some(debt))
             }
             Claimed::OnTape(key) => {
-                let read = match self.free_tape(peer) {
-                    Some(mut tape) => {
-                        let read = read_at(peer, &mut tape, key);
-                        if read.is_ok() {
-                            self.read_ahead(rt, peer, &mut tape);
-                        }
-                        read
-                    }
-                    None => Err(PostFault::Busy { peer }),
-                };
-                self.handed(rt, peer, connection, key, read)
+                let read = self.read_if_free(rt, peer, key);
+                match self.handed(rt, peer, connection, key, read) {
+                    Ok(debt) => Ok(Some(debt)),
+                    Err(fault) => Err(fault),
+                }
             }
         }
+    }
+
+    // Claims the least candidate at a peer's front, and tells whether more is to be read ahead there.
+    fn claimed<R: Wait>(
+        &self,
+        rt: &R,
+        peer: usize,
+        connection: CxnId,
+        now: u64,
+    ) -> Result<(Claimed, bool), PostFault>
+        requires { peer < length self.now.names }
+        ensures claims { IfOk result (λ claimed. AtSomeMoment N N.Naming peer
+            (λ old new. Claims connection.0 now old new claimed.0)) }
+        ensures given_back { IfErr result
+            (λ e. AtSomeMoment N N.Naming peer (GivesBack connection.0 now)
+            ⊎ IsStray N N.Naming peer e) }
+        ensures kinds { IfErr result (IsOfPeer peer IsClaimFault) }
+    {
+        let mut front = self.own_front(rt, peer)?;
+        let claimed = claim_at(peer, &mut front, connection, now)?;
+        Ok((claimed, front.wants_more()))
+    }
+
+    // The debt of this key, read from a peer's tape, which may mean waiting for a flush.
+    fn read<R: Wait>(&self, rt: &R, peer: usize, key: Key) -> Result<Debt, PostFault>
+        requires { peer < length self.now.names }
+        ensures key { IfOk result (λ debt. debt.0 ≡ key) }
+        ensures kinds { IfErr result (IsOfPeer peer IsClaimFault) }
+    {
+        read_at(peer, &mut self.peers[peer].tape.lock(rt), key)
+    }
+
+    // The debt of this key, read from a peer's tape if that is free; then what comes next is read ahead.
+    fn read_if_free<R: Wait>(&self, rt: &R, peer: usize, key: Key) -> Result<Debt, PostFault>
+        requires { peer < length self.now.names }
+        ensures key { IfOk result (λ debt. debt.0 ≡ key) }
+        ensures kinds { IfErr result
+            (λ e. (e ≡ PostFault.Busy peer) ⊎ IsOfPeer peer IsClaimFault e) }
+    {
+        let Some(mut tape) = self.free_tape(peer) else {
+            return Err(PostFault::Busy { peer });
+        };
+        let debt = read_at(peer, &mut tape, key)?;
+        self.read_ahead(rt, peer, &mut tape);
+        Ok(debt)
     }
 
     // Reads ahead from a peer's tape the debts that its front can hand out next. What can't be read stays there; what
@@ -131,15 +180,18 @@ impl<D: Disk, N: Naming> Post<D, N> {
         connection: CxnId,
         key: Key,
         read: Result<Debt, PostFault>,
-    ) -> Result<Option<Debt>, PostFault>
+    ) -> Result<Debt, PostFault>
         requires { peer < length self.now.names }
-        ensures { MatchResult result (λ debt. MatchOption debt ⊥ (λ given. read ≡ Ok given))
-            (λ fault. read ≡ Err fault) }
+        ensures ok { IfOk result (λ debt. read ≡ Ok debt) }
+        ensures given_back { IfErr result (λ e. (read ≡ Err e)
+            × AtSomeMoment N N.Naming peer (Unclaims connection.0 key)
+            ⊎ IsStray N N.Naming peer e) }
     {
         match read {
-            Ok(debt) => Ok(Some(debt)),
+            Ok(debt) => Ok(debt),
             Err(fault) => {
-                self.front(rt, peer).unclaim(connection, key);
+                let mut desk = self.own_front(rt, peer)?;
+                desk.unclaim(connection, key);
                 Err(fault)
             }
         }
@@ -153,6 +205,7 @@ fn claim_at<N: Naming>(
     connection: CxnId,
     now: u64,
 ) -> Result<Claimed, PostFault>
+    requires own { desk.old.seat.place ≡ peer }
     ensures ok { IfOk result
         (Claims connection.0 now (front_of desk.old.seat.sender) (front_of desk.new.seat.sender)) }
     ensures given_back { OnErr result

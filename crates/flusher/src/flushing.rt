@@ -1,16 +1,16 @@
 // What the flusher asks of a post.
 ghost use Rattle.std.specs.Prelude.{◌≡◌, ◌⊎◌, ◌+◌, ◌<◌, ◌^◌};
-ghost use Rattle.std.specs.Prelude.{length, max, IfErr, IfOk, IsOk, OnOk};
+ghost use Rattle.std.specs.Prelude.{length, max, slice_set, true, IfErr, IfOk, IsOk, OnOk};
 ghost use Rattle.flusher.specs.Faults.{IsDiskFault, IsFlushAllFault, IsFlushWorkingFault, IsOfPeer, IsPartFault};
 ghost use Rattle.flusher.specs.Faults.{IsRotateAllFault, IsRoundFault, IsSealFault, IsWorkingFlushFault};
-ghost use Rattle.flusher.specs.Sealed.{IsSealed};
+ghost use Rattle.flusher.specs.Sealed.{IsDoneBelow, IsSealed};
 ghost use Rattle.recovery.specs.Rotates.{RefusesRotation};
 ghost use Rattle.recovery.specs.Words.{IsDue, IsRotateFault, generation_of, ledger_of};
 
 use crate::article_sync::ArticleSync;
 use crate::pace::{Pace, Place, Who};
 use crate::post::Intake;
-use crate::sealing::{Due, Sealing, SyncedLine, TakenLine};
+use crate::sealing::{Due, Sealing, SyncedLine};
 use crate::tape_desk::Flush;
 use crate::{Naming, Post, PostFault, Receipt};
 use disk_model::Disk;
@@ -42,18 +42,13 @@ impl<D: Disk, N: Naming> Post<D, N> {
         ensures kinds { IfErr result (λ fault. IsFlushAllFault (length self.now.names) fault
             ⊎ IsFlushWorkingFault (length self.now.names) fault) }
     {
-        let last = self.last_taken(rt);
+        let last = self.last.read(rt);
         let Ok(last) = articles.sync(rt, last) else {
             self.flush_working(rt, pace)?;
             return Ok(None);
         };
         let receipt = self.flush_up_to(rt, pace, last)?;
         Ok(Some(receipt))
-    }
-
-    // The line that was taken last.
-    fn last_taken<R: Wait>(&self, rt: &R) -> TakenLine {
-        *self.last.lock(rt)
     }
 
     // Puts all that pends on the disks, and then this number on the intake's tape.
@@ -63,10 +58,12 @@ impl<D: Disk, N: Naming> Post<D, N> {
         pace: &P,
         last: SyncedLine,
     ) -> Result<Receipt, PostFault>
-        ensures number { IfOk result (λ receipt. receipt.number ≡ last.number) }
+        ensures number { IfOk result (λ receipt. receipt.acknowledged.number ≡ last.number) }
         ensures kinds { IfErr result (IsFlushAllFault (length self.now.names)) }
     {
-        let mut sealing = Sealing::begin(last);
+        let Ok(mut sealing) = Sealing::begin(self.alloc, last, self.peers()) else {
+            return Err(PostFault::NoMemory);
+        };
         for peer in 0..self.peers() {
             self.flush_next(rt, pace, peer, &mut sealing)?;
             pace.turn(Who::Flusher, Place::AfterFlush);
@@ -74,7 +71,7 @@ impl<D: Disk, N: Naming> Post<D, N> {
         self.seal(rt, sealing)
     }
 
-    // Flushes the station that comes next, and counts it.
+    // Flushes a station, and adds it to the sealing.
     fn flush_next<P: Pace, R: Wait>(
         &self,
         rt: &R,
@@ -82,14 +79,12 @@ impl<D: Disk, N: Naming> Post<D, N> {
         peer: usize,
         sealing: &mut Sealing,
     ) -> Result<(), PostFault>
-        requires peer { peer < length self.now.names }
-        requires next { peer ≡ sealing.old.flushed }
-        ensures flushed { OnOk result (sealing.new.flushed ≡ sealing.old.flushed + 1) }
+        requires peer { (peer < length self.now.names) × (peer < length sealing.old.done.items) }
+        ensures done { OnOk result
+            (sealing.new.done.items ≡ slice_set sealing.old.done.items peer true) }
         ensures number { sealing.new.number ≡ sealing.old.number }
         ensures kinds { IfErr result (IsPartFault peer IsRoundFault) }
     {
-        // For the prover: there is a number after this peer's.
-        let _peers = self.peers();
         let due = self.due(rt, peer, sealing)?;
         let settlement = self.settle_peer(rt, pace, peer, due.count())?;
         sealing.add(due, settlement);
@@ -112,8 +107,8 @@ impl<D: Disk, N: Naming> Post<D, N> {
 
     // Notes on the intake tape that all lines are acknowledged up to the number that was read before the flushes.
     fn seal<R: Wait>(&self, rt: &R, sealing: Sealing) -> Result<Receipt, PostFault>
-        requires { sealing.flushed ≡ length self.now.names }
-        ensures number { IfOk result (λ receipt. receipt.number ≡ sealing.number) }
+        requires { IsDoneBelow (length self.now.names) sealing.done.items }
+        ensures number { IfOk result (λ receipt. receipt.acknowledged.number ≡ sealing.number) }
         ensures kinds { IfErr result (IsFlushAllFault (length self.now.names)) }
     {
         match self.intake.lock(rt).seal(self, sealing) {
@@ -217,10 +212,10 @@ impl<D: Disk, N: Naming> Post<D, N> {
 impl<D: Disk> Intake<D> {
     // Notes that all lines are acknowledged up to the number that was read before the flushes, and makes the receipt.
     fn seal<N: Naming>(&mut self, post: &Post<D, N>, sealing: Sealing) -> Result<Receipt, TapeFault>
-        requires { sealing.flushed ≡ length post.now.names }
-        ensures mark { IfOk result (λ receipt. (receipt.number ≡ sealing.number)
+        requires { IsDoneBelow (length post.now.names) sealing.done.items }
+        ensures mark { IfOk result (λ receipt. (receipt.acknowledged.number ≡ sealing.number)
             × ((ledger_of self.new.tape).mark
-            ≡ max (ledger_of self.old.tape).mark receipt.number)) }
+            ≡ max (ledger_of self.old.tape).mark receipt.acknowledged.number)) }
         ensures kinds { IfErr result IsSealFault }
     {
         self.note_seen(sealing.number())?;

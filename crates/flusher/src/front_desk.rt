@@ -70,6 +70,12 @@ pub(crate) enum Claimed {
     OnTape(Key),
 }
 
+/// The copy of a note was refused memory: that note, and all after it, stay unsent. Only a front that sends makes one.
+#[derive(Clone, Copy)]
+pub(crate) struct NoCopy {
+    of: AllocError,
+}
+
 impl<N: Naming> FrontDesk<N> {
     ghost use Rattle.std.specs.Prelude.{◌≢◌, ◌⊎◌, ◌-◌, ◌<◌, ◌≤◌, ◌^◌, ◌↔◌, []};
     ghost use Rattle.std.specs.Prelude.{true, false, min};
@@ -157,6 +163,7 @@ impl<N: Naming> FrontDesk<N> {
             (front_of self.new.seat.sender) result }
         ensures kinds { IfErr result (λ e. IsEndFault e.1) }
         ensures unchanged { OnErr result (mine.new ≡ mine.old) }
+        ensures place { self.new.seat.place ≡ self.old.seat.place }
         ensures keeps_report { KeepsReport self.old self.new }
         ensures keeps_ahead { self.new.ahead ≡ self.old.ahead }
     {
@@ -342,12 +349,12 @@ impl<N: Naming> FrontDesk<N> {
     /// Sends what is unsent, oldest first, until all is sent or the queue is full ([`Sender::send`]).
     ///
     /// # Errors
-    /// `NoMemory` if the copy of a note was refused memory: that note, and all after it, stay unsent.
+    /// `NoCopy` if the copy of a note was refused memory: that note, and all after it, stay unsent.
     pub fn send<P: Relays, R: Wait>(
         &mut self,
         rt: &R,
         queue: &RuledArrayQueue<Note, PassLog, P>,
-    ) -> Result<(), AllocError>
+    ) -> Result<(), NoCopy>
         requires { IsAt queue.now (sending self.old.seat.sender) }
         ensures sends { SendsMore self.old.seat.sender self.new.seat.sender }
         ensures keeps { IsOnlySent (front_of self.old.seat.sender) (front_of self.new.seat.sender) }
@@ -359,7 +366,10 @@ impl<N: Naming> FrontDesk<N> {
         ensures keeps_ahead { self.new.ahead ≡ self.old.ahead }
     {
         let FrontDesk { seat, .. } = self;
-        seat.sender.send(rt, queue)
+        match seat.sender.send(rt, queue) {
+            Ok(()) => Ok(()),
+            Err(of) => Err(NoCopy { of }),
+        }
     }
 
     /// Settles what a flush has put on the disks. `None`, and nothing has changed, if the flush is not of this front's

@@ -14,6 +14,7 @@ mod flushes;
 mod flushing;
 mod front_desk;
 mod naming;
+mod noted;
 mod pace;
 mod peer;
 mod post;

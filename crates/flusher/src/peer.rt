@@ -3,7 +3,7 @@ ghost use Rattle.std.specs.Prelude.{◌≡◌, ◌↔◌, ◌+◌, ◌≤◌, �
 ghost use Rattle.std.specs.Prelude.{IfErr, IsOk};
 ghost use Rattle.std.specs.Prelude.{MatchResult, Ok, OnOk};
 ghost use Rattle.flusher.specs.Flushes.{AcknowledgesOr, RefusesOrRotates};
-ghost use Rattle.flusher.specs.Kept.{IsKept};
+ghost use Rattle.flusher.specs.Kept.{HasAllOnDisks, IsKept};
 ghost use Rattle.flusher.specs.Sealed.{IsFlushed};
 ghost use Rattle.ledger_core.specs.declared.note.Note.{Note};
 ghost use Rattle.peer_queue.specs.Calls.{IsFresh, KeepsDebts, RefusesClose, RefusesOwe};
@@ -41,6 +41,7 @@ pub struct PostPeer<D: Disk> {
     /// All that it is owed.
     pub station: Station<D>,
     ghost kept: { ∥ IsKept station ∥₁ },
+    ghost on_disks: { HasAllOnDisks station },
 }
 
 impl<D: Disk> PostPeer<D> {

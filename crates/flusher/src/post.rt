@@ -9,8 +9,8 @@ ghost use Rattle.flusher.specs.Post.{IsFor, View, names_of, sums_at, sums_of, to
 ghost use Rattle.flusher.specs.Sealed.{IsFlushed};
 ghost use Rattle.flusher.specs.Shares.{IsUnused};
 ghost use Rattle.note_queue.specs.Relay.{begun, may_pop, may_push};
-ghost use Rattle.note_queue.specs.Words.{front_of, kept_of, sending, taking, tape_of};
-ghost use Rattle.peer_queue.specs.Front.{IsFrontOf, IsPlaced};
+ghost use Rattle.note_queue.specs.Words.{front_of, kept_of, sending, since_of, taking, tape_of};
+ghost use Rattle.peer_queue.specs.Front.{IsFrontOf, IsPlaced, settled_of};
 ghost use Rattle.peer_queue.specs.Words.{ledger_of, tape_of as station_tape};
 ghost use Rattle.recovery.specs.Words.{ledger_of as tape_ledger};
 
@@ -21,7 +21,7 @@ use crate::naming::{
 };
 use crate::peer::{PostPeer, Sums, counted_at};
 use crate::read_ahead::ReadAhead;
-use crate::sealing::TakenLine;
+use crate::sealing::{LastTaken, TakenLine};
 use crate::share::{FeederShare, IntakeShare};
 use crate::tally::{Books, Tally, UncutLedger};
 use crate::tape_desk::TapeDesk;
@@ -33,6 +33,7 @@ use peer_queue::Station;
 use recovery::Tape;
 use std::alloc::{AllocError, Global};
 use std::marker::{Model, PhantomData};
+use std::snapshot::Snapshot;
 use std::sync::Mutex;
 use std::sync::atomic::{AtomicBool, AtomicU64};
 use std::sync::ledger::Share;
@@ -74,9 +75,8 @@ pub struct Post<D: Disk, N: Naming> {
     pub(crate) alloc: Global,
     pub(crate) peers: Vec<PeerDesk<D, N>>,
     pub(crate) intake: Mutex<Intake<D>>,
-    // The last line taken by every station it names, as in the intake's share. The intake alone writes it; the flusher
-    // reads it before it flushes the stations.
-    pub(crate) last: Mutex<TakenLine>,
+    // The last line taken by every station it names, as in the intake's share.
+    pub(crate) last: LastTaken,
     // The tally of what was taken. The intake alone counts there, and waits for no feeder to do so.
     pub(crate) taken: Mutex<Books<TakenByIntake<N>, TakenAtStations<N>>>,
     // The tally of what has ended.
@@ -97,6 +97,51 @@ impl<D: Disk, N: Naming> Model for Post<D, N> {
         × (map (λ q. q.queue.table.shared.table_id) p.peers.items ≡ N.names.tables) };
 }
 
+// A peer whose station is split, before the two ends lie under their locks.
+#[derive(Drop)]
+struct SplitPeer<D: Disk, N: Naming> {
+    name: PeerName,
+    opened: Sums,
+    queue: NoteQueue,
+    front: FrontDesk<N>,
+    tape: TapeDesk<D, N>,
+    // The station as it was, for the clauses alone.
+    station: Snapshot<Station<D>>,
+    ghost size: { ruled_capacity queue ≡ 1024 },
+}
+
+impl<D: Disk, N: Naming> SplitPeer<D, N> {
+    ghost use Rattle.flusher.specs.Split.{IsSplitOf};
+
+    // Puts the ends under their locks, as the split has left them.
+    fn locked(self) -> PeerDesk<D, N>
+        requires split { (place : ℕ) × IsSplitOf place self.station.value self.front self.tape }
+        ensures name { result.name ≡ self.name }
+        ensures opened { result.opened ≡ self.opened }
+        ensures queue { result.queue ≡ self.queue }
+    {
+        let SplitPeer {
+            name,
+            opened,
+            queue,
+            front,
+            tape,
+            ..
+        } = self;
+        PeerDesk {
+            name,
+            opened,
+            queue,
+            front: Mutex::new(front),
+            tape: Mutex::new(tape),
+            half_full: AtomicBool::new(false),
+            given_up: AtomicU64::new(0),
+            room: AtomicU64::new(0),
+            is_failing: AtomicBool::new(false),
+        }
+    }
+}
+
 // The three token ledgers beside the stations, as they are cut.
 #[derive(Drop)]
 struct Openings<N: Naming> {
@@ -106,7 +151,9 @@ struct Openings<N: Naming> {
 }
 
 impl<N: Naming> Openings<N> {
-    // Splits the station of one more peer, at this place.
+    ghost use Rattle.flusher.specs.Split.{IsSplitOf};
+
+    // Splits the station of one more peer, at this place, and puts its two ends under their locks.
     fn desk<D: Disk + Drop>(
         &mut self,
         alloc: Global,
@@ -138,8 +185,46 @@ impl<N: Naming> Openings<N> {
             × (self.new.dropped.book.total
             ≡ self.old.dropped.book.total + desk.opened.dropped)) }
     {
+        Ok(self.split(alloc, peer, blank, place)?.locked())
+    }
+
+    // Splits the station of one more peer, at this place.
+    fn split<D: Disk + Drop>(
+        &mut self,
+        alloc: Global,
+        peer: PostPeer<D>,
+        blank: BlankQueue,
+        place: usize,
+    ) -> Result<SplitPeer<D, N>, AllocError>
+        requires parts { (0 < self.old.taken.rest.parts) × (0 < self.old.answered.rest.parts)
+            × (0 < self.old.dropped.rest.parts) }
+        requires nothing { (self.old.taken.rest.amount ≡ 0) × (self.old.answered.rest.amount ≡ 0)
+            × (self.old.dropped.rest.amount ≡ 0) }
+        requires flushed { IsFlushed peer.station }
+        requires tied { IsTableAt N.names.tables place blank.queue.table.shared.table_id }
+        ensures name { IfOk result (λ made. made.name ≡ peer.name) }
+        ensures opened { IfOk result (λ made. made.opened ≡ sums_at peer) }
+        ensures queue { IfOk result
+            (λ made. made.queue.table.shared.table_id ≡ blank.queue.table.shared.table_id) }
+        ensures parts { OnOk result
+            ((self.new.taken.rest.parts + 1 ≡ self.old.taken.rest.parts)
+            × (self.new.answered.rest.parts + 1 ≡ self.old.answered.rest.parts)
+            × (self.new.dropped.rest.parts + 1 ≡ self.old.dropped.rest.parts)) }
+        ensures nothing { OnOk result
+            ((self.new.taken.rest.amount ≡ 0) × (self.new.answered.rest.amount ≡ 0)
+            × (self.new.dropped.rest.amount ≡ 0)) }
+        ensures totals { IfOk result (λ made.
+            (self.new.taken.book.total ≡ self.old.taken.book.total + made.opened.taken)
+            × (self.new.answered.book.total
+            ≡ self.old.answered.book.total + made.opened.answered)
+            × (self.new.dropped.book.total
+            ≡ self.old.dropped.book.total + made.opened.dropped)) }
+        ensures split { IfOk result (λ made. (made.station.value ≡ peer.station)
+            × IsSplitOf place peer.station made.front made.tape) }
+    {
         let PostPeer { name, station, .. } = peer;
         let BlankQueue { queue, pass, .. } = blank;
+        let was = Snapshot::of(&station);
         let opened = counted_at(&station);
         let acknowledged = station.totals();
         let (seat, tape) = ends_of(&queue, pass, station, place)?;
@@ -152,16 +237,13 @@ impl<N: Naming> Openings<N> {
             has_failed: false,
             ahead: ReadAhead::new(alloc),
         };
-        Ok(PeerDesk {
+        Ok(SplitPeer {
             name,
             opened,
             queue,
-            front: Mutex::new(front),
-            tape: Mutex::new(tape),
-            half_full: AtomicBool::new(false),
-            given_up: AtomicU64::new(0),
-            room: AtomicU64::new(0),
-            is_failing: AtomicBool::new(false),
+            front,
+            tape,
+            station: was,
         })
     }
 }
@@ -179,7 +261,8 @@ fn ends_of<D: Disk + Drop, N: Naming>(
     requires tied { IsTableAt N.names.tables place queue.now.table.shared.table_id }
     ensures front { IfOk result (λ ends. IsFrontOf place station (front_of ends.0.sender)) }
     ensures tape { IfOk result (λ ends. IsPlaced place (station_tape station) (tape_of ends.1.side)
-        × (kept_of ends.1.side ≡ None)) }
+        × (kept_of ends.1.side ≡ None)
+        × (since_of ends.1.side ≡ settled_of (front_of ends.0.sender))) }
     ensures passes { IfOk result (λ ends.
         (view (sending ends.0.sender) ≡ may_push (ledger_of station) [])
         × (view (taking ends.1.side) ≡ may_pop (ledger_of station) [])) }
@@ -292,7 +375,7 @@ impl<D: Disk + Drop, N: Naming> Post<D, N> {
             alloc,
             peers: made,
             intake: Mutex::new(Intake { tape: intake }),
-            last: Mutex::new(last),
+            last: LastTaken::new(last),
             taken: Mutex::new(taken_at.close(taken)),
             ended: Mutex::new(ended),
         };

@@ -1,7 +1,10 @@
 // One peer's rounds: what its front has noted goes to its tape, and is settled once it is on the disks.
 ghost use Rattle.std.specs.Prelude.{◌≡◌, ◌<◌, ◌≤◌, ◌⊎◌, IfErr, IfOk, IfSome, length};
 ghost use Rattle.flusher.specs.Faults.{IsPartFault, IsRoundFault};
+ghost use Rattle.flusher.specs.Moments.{DeskAtSomeMoment, IsStray};
+ghost use Rattle.flusher.specs.Told.{IsTold};
 
+use crate::front_desk::FrontDesk;
 use crate::pace::{Pace, Place, Who};
 use crate::sealing::Settlement;
 use crate::tape_desk::Flush;
@@ -23,21 +26,36 @@ impl<D: Disk, N: Naming> Post<D, N> {
         requires { peer < length self.now.names }
         ensures settled { IfOk result
             (λ settlement. (settlement.place ≡ peer) × (count ≤ settlement.count)) }
+        ensures told { IfErr result (λ e. DeskAtSomeMoment N N.Naming peer (IsTold e)
+            ⊎ IsStray N N.Naming peer e) }
         ensures kinds { IfErr result (IsPartFault peer IsRoundFault) }
     {
-        let settled = self.go_round(rt, pace, peer, count);
-        if let Err(fault) = settled {
-            self.report_to_front(rt, peer, fault);
+        match self.go_round(rt, pace, peer, count) {
+            Ok(settlement) => Ok(settlement),
+            Err(fault) => Err(self.report_to_front(rt, peer, fault)),
         }
-        settled
     }
 
-    // Reports to a peer's front that a flush or a rotation failed. The front is cut off if a disk failed, now or
-    // before.
-    pub(crate) fn report_to_front<R: Wait>(&self, rt: &R, peer: usize, fault: PostFault)
+    // Reports to a peer's front that a flush or a rotation failed, and returns the fault. The front is cut off if a
+    // disk failed, now or before. `Stranger` if its lock held another peer's front, which no run meets.
+    pub(crate) fn report_to_front<R: Wait>(
+        &self,
+        rt: &R,
+        peer: usize,
+        fault: PostFault,
+    ) -> PostFault
         requires { peer < length self.now.names }
+        ensures told { DeskAtSomeMoment N N.Naming peer (IsTold result)
+            ⊎ IsStray N N.Naming peer result }
+        ensures fault { (result ≡ fault) ⊎ (result ≡ PostFault.Stranger peer) }
     {
-        self.peers[peer].front.lock(rt).fail(fault.has_broken());
+        match self.own_front(rt, peer) {
+            Ok(mut desk) => {
+                fail_at(&mut desk, fault);
+                fault
+            }
+            Err(stray) => stray,
+        }
     }
 
     // Goes in rounds until the first `count` notes are settled. One round is enough, unless more pended than the tape
@@ -153,4 +171,11 @@ impl<D: Disk, N: Naming> Post<D, N> {
             None => Err(PostFault::Stranger { peer }),
         }
     }
+}
+
+// Tells a front that a flush or a rotation of its tape failed.
+fn fail_at<N: Naming>(desk: &mut FrontDesk<N>, fault: PostFault)
+    ensures { IsTold fault desk.old desk.new }
+{
+    desk.fail(fault.has_broken());
 }

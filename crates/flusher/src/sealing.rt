@@ -1,27 +1,37 @@
 // How a receipt is made.
-ghost use Rattle.std.specs.Prelude.{◌≡◌, ◌+◌, ◌<◌, ◌≤◌, ◌^◌, ℕ, List, length};
+ghost use Rattle.std.specs.Prelude.{◌≡◌, ◌+◌, ◌<◌, ◌≤◌, ℕ, List, IfOk, false, length};
+ghost use Rattle.std.specs.Prelude.{replicate, slice_set, true};
 ghost use Rattle.flusher.specs.Marks.{IsRaised};
-ghost use Rattle.flusher.specs.Sealed.{HasSettled, IsSealed, noted_at};
+ghost use Rattle.flusher.specs.Sealed.{HasSettled, IsDoneBelow, IsSealed, noted_at};
 ghost use Rattle.note_queue.specs.Words.{front_of};
 ghost use Rattle.recovery.specs.Words.{ledger_of};
 
 use crate::front_desk::FrontDesk;
 use crate::post::Intake;
 use crate::{Naming, Post};
+use acknowledged_lines::Acknowledged;
 use disk_model::Disk;
 use recovery::Tape;
+use std::alloc::{AllocError, Global};
+use std::sync::{Mutex, Wait};
 
 /// All lines up to this number are acknowledged. `Post::flush_all` alone makes one.
 #[derive(Clone, Copy, Debug, PartialEq, Eq)]
 pub struct Receipt {
-    number: u64,
+    acknowledged: Acknowledged,
 }
 
 impl Receipt {
     pub fn number(&self) -> u64
-        ensures { result ≡ self.now.number }
+        ensures { result ≡ self.now.acknowledged.number }
     {
-        self.number
+        self.acknowledged.number()
+    }
+
+    pub fn acknowledged(&self) -> Acknowledged
+        ensures { result ≡ self.now.acknowledged }
+    {
+        self.acknowledged
     }
 }
 
@@ -67,6 +77,34 @@ impl TakenLine {
     }
 }
 
+// The last line that was taken, as all threads see it. The intake alone shows one; the flusher reads it before it
+// flushes the stations.
+#[derive(Drop)]
+pub(crate) struct LastTaken {
+    shown: Mutex<TakenLine>,
+}
+
+impl LastTaken {
+    pub(crate) fn new(line: TakenLine) -> LastTaken {
+        LastTaken {
+            shown: Mutex::new(line),
+        }
+    }
+
+    // Shows the line after the last of the intake's share, which counts it.
+    pub(crate) fn show<R: Wait>(&self, rt: &R, line: TakenLine, last: &mut u64)
+        requires { line.number ≡ last.old + 1 }
+        ensures { last.new ≡ line.number }
+    {
+        *last = line.number;
+        *self.shown.lock(rt) = line;
+    }
+
+    pub(crate) fn read<R: Wait>(&self, rt: &R) -> TakenLine {
+        *self.shown.lock(rt)
+    }
+}
+
 /// Such a line, once the articles of all lines up to it are durable.
 #[derive(Clone, Copy)]
 pub struct SyncedLine {
@@ -84,12 +122,12 @@ impl SyncedLine {
     }
 }
 
-// A receipt that is being made: the number of the last line that was taken before the first flush, and how many
-// stations have been flushed since, in the order of the peers.
+// A receipt that is being made: the number of the last line that was taken before the first flush, and for each place
+// whether all is settled there that was due. The places may come in any order.
 #[derive(Drop)]
 pub(crate) struct Sealing {
     number: u64,
-    flushed: usize,
+    done: Vec<bool>,
 }
 
 // What is to be settled at a place for the receipt of a number: all that had been noted there when its part began.
@@ -137,14 +175,19 @@ impl Settlement {
 }
 
 impl Sealing {
-    // Begins with the last line that was taken. No station has been flushed since.
-    pub(crate) fn begin(last: SyncedLine) -> Sealing
-        ensures { (result.number ≡ last.number) × (result.flushed ≡ 0) }
+    // Begins with the last line that was taken, for this many places. Nothing has been settled at any of them.
+    pub(crate) fn begin(
+        alloc: Global,
+        last: SyncedLine,
+        places: usize,
+    ) -> Result<Sealing, AllocError>
+        ensures number { IfOk result (λ sealing. sealing.number ≡ last.number) }
+        ensures none { IfOk result (λ sealing. sealing.done.items ≡ replicate places false) }
     {
-        Sealing {
+        Ok(Sealing {
             number: last.number,
-            flushed: 0,
-        }
+            done: vec![in alloc; false; places]?,
+        })
     }
 
     // The number of the last line that was taken before the first flush.
@@ -166,16 +209,15 @@ impl Sealing {
         }
     }
 
-    // Counts the peer that comes next, at which all is settled that was due for this receipt.
+    // Adds a place at which all is settled that was due there for this receipt.
     pub(crate) fn add(&mut self, due: Due, settlement: Settlement)
-        requires next { (due.number ≡ self.old.number) × (due.place ≡ self.old.flushed) }
+        requires due { (due.number ≡ self.old.number) × (due.place < length self.old.done.items) }
         requires settled { (settlement.place ≡ due.place) × (due.count ≤ settlement.count) }
-        requires room { due.place + 1 < 2 ^ 64 }
-        ensures flushed { self.new.flushed ≡ self.old.flushed + 1 }
+        ensures done { self.new.done.items ≡ slice_set self.old.done.items due.place true }
         ensures number { self.new.number ≡ self.old.number }
     {
         let _ = settlement;
-        self.flushed = due.place + 1;
+        self.done[due.place] = true;
     }
 
     // Makes the receipt, once all is settled at each place, and the number is on the intake tape's disks.
@@ -184,14 +226,13 @@ impl Sealing {
         post: &Post<D, N>,
         intake: &Intake<D>,
     ) -> Receipt
-        requires flushed { self.flushed ≡ length post.now.names }
+        requires done { IsDoneBelow (length post.now.names) self.done.items }
         requires sealed { IsSealed self.number intake.now.tape }
-        ensures { result.number ≡ self.number }
+        ensures { result.acknowledged.number ≡ self.number }
     {
         let _ = post;
-        let _ = intake;
         Receipt {
-            number: self.number,
+            acknowledged: Acknowledged::of(&intake.tape).up_to(self.number),
         }
     }
 }

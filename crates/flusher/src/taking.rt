@@ -14,6 +14,7 @@ ghost use Rattle.peer_queue.specs.Front.{IsSame};
 use crate::fault::TakeFault;
 use crate::front_desk::FrontDesk;
 use crate::naming::{TakenAtStations, TakenByIntake};
+use crate::pace::{Free, Pace, Place, Who};
 use crate::sealing::TakenLine;
 use crate::share::IntakeShare;
 use crate::tally::Books;
@@ -48,14 +49,41 @@ impl<D: Disk, N: Naming> Post<D, N> {
             self.now.names fault share.old.marks share.new.marks) }
         ensures stays { OnErr result (share.new.last ≡ share.old.last) }
     {
+        self.take_line_at(rt, line, share, &Free)
+    }
+
+    /// Takes a funnel line as [`Post::take_line`] does. The pace is asked before the line's number is shown: until then
+    /// no receipt has it, so a flush may run in between.
+    ///
+    /// # Errors
+    /// Those of [`Post::take_line`].
+    #[tactic(auto, using(crate::proofs::Rises::rises_same))]
+    pub fn take_line_at<P: Pace, R: Wait>(
+        &self,
+        rt: &R,
+        line: &[u8],
+        share: &mut IntakeShare<N>,
+        pace: &P,
+    ) -> Result<u64, PostFault>
+        ensures marks { length share.new.marks ≡ length share.old.marks }
+        ensures number { IfOk result (λ n. (n ≡ share.old.last + 1) × (share.new.last ≡ n)) }
+        ensures raised { IfOk result
+            (λ n. IsRaised n line.now self.now.names share.old.marks share.new.marks) }
+        ensures counted { share.new.taken ≡ share.old.taken
+            + rises share.old.marks share.new.marks }
+        ensures count_full { share.old.last ≡ 2 ^ 64 - 1 → result ≡ Err PostFault.CountFull }
+        ensures refuses { IfErr result (λ fault. RefusesLine (share.old.last + 1) line.now
+            self.now.names fault share.old.marks share.new.marks) }
+        ensures stays { OnErr result (share.new.last ≡ share.old.last) }
+    {
         let Some(number) = share.last.checked_add(1) else {
             return Err(PostFault::CountFull);
         };
         let shown = &self.last;
         let IntakeShare { taken, marks, last } = share;
         let line = self.take_whole(rt, number, line, taken, marks)?;
-        *last = number;
-        *shown.lock(rt) = line;
+        pace.turn(Who::Intake, Place::BeforeShow);
+        shown.show(rt, line, last);
         Ok(number)
     }
 

@@ -74,10 +74,10 @@ impl<D: Disk, N: Naming> TapeDesk<D, N> {
     ghost use Rattle.ledger_core.specs.Index.{debt_at};
     ghost use Rattle.ledger_core.specs.State.{IsOwed};
     ghost use Rattle.note_queue.specs.Calls.{IsNotCalled, TakesMore, TellsFaults};
-    ghost use Rattle.note_queue.specs.Ends.{IsSameEnd, KeepsFor};
+    ghost use Rattle.note_queue.specs.Ends.{IsSameEnd, KeepsFor, PutsMore};
     ghost use Rattle.note_queue.specs.Owns.{LeavesFirst};
     ghost use Rattle.note_queue.specs.Relay.{IsAt, WasSeen};
-    ghost use Rattle.note_queue.specs.Words.{kept_of, tape_of};
+    ghost use Rattle.note_queue.specs.Words.{kept_of, since_of, tape_of};
     ghost use Rattle.recovery.specs.Flushes.{RefusesFlush};
     ghost use Rattle.recovery.specs.Notes.{History};
     ghost use Rattle.recovery.specs.Rotates.{RefusesRotation};
@@ -97,6 +97,7 @@ impl<D: Disk, N: Naming> TapeDesk<D, N> {
     ) -> Result<(), TapeFault>
         requires { IsAt queue.now (taking self.old.side) }
         ensures takes { TakesMore (taking self.old.side) (taking self.new.side) }
+        ensures puts { PutsMore self.old.side self.new.side }
         ensures ok { OnOk result (kept_of self.new.side ≡ None) }
         // At one moment of the call the queue was empty, and the pass had taken what it has now.
         ensures empty { OnOk result (WasSeen P.holds 0 (view (taking self.new.side))) }
@@ -114,11 +115,12 @@ impl<D: Disk, N: Naming> TapeDesk<D, N> {
     /// `Broken`; `TapeFull` if there is no room in a rewritten tape, or the generation is the greatest; `NoMemory`;
     /// `Disk`, which breaks the tape.
     pub fn flush(&mut self) -> Result<Flush, TapeFault>
-        ensures ok { IfOk result (IsFlushOf (tape_of self.new.side)) }
+        ensures ok { IfOk result (IsFlushOf self.new.side) }
         ensures acknowledges { (h : History) → StandsFor (tape_of self.old.side) h
             → Acknowledges h (tape_of self.old.side) (tape_of self.new.side) result }
         ensures moments { LeavesFirst (view (taking self.old.side)).got_on
-            (view (taking self.old.side)).got (tape_of self.old.side) (tape_of self.new.side) }
+            (since_of self.old.side) (view (taking self.old.side)).got
+            (tape_of self.old.side) (tape_of self.new.side) }
         ensures refuses { RefusesOrRewrites (TapeHasNoRoom (tape_of self.old.side))
             (tape_of self.old.side) (tape_of self.new.side) result }
         ensures keeps { IsSameEnd self.old.side self.new.side }
@@ -131,11 +133,12 @@ impl<D: Disk, N: Naming> TapeDesk<D, N> {
 
     // Flushes the tape, if there is room for what pends.
     fn flush_once(&mut self) -> Result<Flush, TapeFault>
-        ensures ok { IfOk result (IsFlushOf (tape_of self.new.side)) }
+        ensures ok { IfOk result (IsFlushOf self.new.side) }
         ensures acknowledges { (h : History) → StandsFor (tape_of self.old.side) h
             → Acknowledges h (tape_of self.old.side) (tape_of self.new.side) result }
         ensures moments { LeavesFirst (view (taking self.old.side)).got_on
-            (view (taking self.old.side)).got (tape_of self.old.side) (tape_of self.new.side) }
+            (since_of self.old.side) (view (taking self.old.side)).got
+            (tape_of self.old.side) (tape_of self.new.side) }
         ensures empty { pending_of (tape_of self.old.side) ≡ 0
             → tape_of self.new.side ≡ tape_of self.old.side }
         ensures empty_ok { pending_of (tape_of self.old.side) ≡ 0
@@ -155,11 +158,12 @@ impl<D: Disk, N: Naming> TapeDesk<D, N> {
 
     // Rewrites the tape, instead of a flush for which there is no room. The faults are those of a flush.
     fn rotate_full(&mut self) -> Result<Flush, TapeFault>
-        ensures ok { IfOk result (IsFlushOf (tape_of self.new.side)) }
+        ensures ok { IfOk result (IsFlushOf self.new.side) }
         ensures acknowledges { (h : History) → StandsFor (tape_of self.old.side) h
             → Acknowledges h (tape_of self.old.side) (tape_of self.new.side) result }
         ensures moments { LeavesFirst (view (taking self.old.side)).got_on
-            (view (taking self.old.side)).got (tape_of self.old.side) (tape_of self.new.side) }
+            (since_of self.old.side) (view (taking self.old.side)).got
+            (tape_of self.old.side) (tape_of self.new.side) }
         ensures refuses { RefusesOrRewrites (HasNoRoomRewritten (tape_of self.old.side))
             (tape_of self.old.side) (tape_of self.new.side) result }
         ensures keeps { IsSameEnd self.old.side self.new.side }
@@ -180,14 +184,14 @@ impl<D: Disk, N: Naming> TapeDesk<D, N> {
         ensures generation { IsDue (tape_of self.old.side) → IfOk result (λ rotated.
             IsSome rotated × (generation_of (tape_of self.new.side)
             ≡ generation_of (tape_of self.old.side) + 1)) }
-        ensures ok { IfOk result (λ rotated. IfSome rotated (IsFlushOf (tape_of self.new.side))
+        ensures ok { IfOk result (λ rotated. IfSome rotated (IsFlushOf self.new.side)
             × (faults_of (tape_of self.new.side) ≡ faults_of (tape_of self.old.side))) }
         ensures acknowledges { IsDue (tape_of self.old.side)
             → (h : History) → StandsFor (tape_of self.old.side) h
             → Acknowledges h (tape_of self.old.side) (tape_of self.new.side) result }
         ensures moments { IsDue (tape_of self.old.side)
-            → LeavesFirst (view (taking self.old.side)).got_on (view (taking self.old.side)).got
-            (tape_of self.old.side) (tape_of self.new.side) }
+            → LeavesFirst (view (taking self.old.side)).got_on (since_of self.old.side)
+            (view (taking self.old.side)).got (tape_of self.old.side) (tape_of self.new.side) }
         ensures refuses { IsDue (tape_of self.old.side)
             → RefusesRotation (tape_of self.old.side) (tape_of self.new.side) result }
         ensures keeps { IsSameEnd self.old.side self.new.side }
@@ -205,11 +209,12 @@ impl<D: Disk, N: Naming> TapeDesk<D, N> {
     /// # Errors
     /// The tape's, in its order: `Broken`; `GenerationFull`; `TapeFull`; `NoMemory`; `Disk`, which breaks the tape.
     pub fn rotate(&mut self) -> Result<Flush, TapeFault>
-        ensures ok { IfOk result (IsFlushOf (tape_of self.new.side)) }
+        ensures ok { IfOk result (IsFlushOf self.new.side) }
         ensures acknowledges { (h : History) → StandsFor (tape_of self.old.side) h
             → Acknowledges h (tape_of self.old.side) (tape_of self.new.side) result }
         ensures moments { LeavesFirst (view (taking self.old.side)).got_on
-            (view (taking self.old.side)).got (tape_of self.old.side) (tape_of self.new.side) }
+            (since_of self.old.side) (view (taking self.old.side)).got
+            (tape_of self.old.side) (tape_of self.new.side) }
         ensures generation { OnOk result (generation_of (tape_of self.new.side)
             ≡ generation_of (tape_of self.old.side) + 1) }
         ensures refuses { RefusesRotation (tape_of self.old.side) (tape_of self.new.side) result }

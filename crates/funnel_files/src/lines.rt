@@ -3,6 +3,7 @@ use crate::fault::FunnelFault;
 use crate::plain::PlainFunnel;
 use crate::segment_directory::SegmentDirectory;
 use crate::segmented::SegmentedFunnel;
+use acknowledged_lines::Acknowledged;
 use std::fs::{self, File};
 use std::net::Net;
 use std::rt::{Clock, Files};
@@ -51,10 +52,7 @@ impl<'a, F: AllocGlobal + Files<File = File>> Funnel<'a, F> {
     ) -> Result<Self, FunnelFault> {
         let alloc = files.alloc();
         let lines = if fs::metadata(files, path).is_ok_and(|there| there.is_dir()) {
-            let directory = SegmentDirectory {
-                files,
-                path: String::from_str(alloc, path)?,
-            };
+            let directory = SegmentDirectory::new(files, path)?;
             Lines::Directory(SegmentedFunnel::open(directory, mark, is_followed, is_tidied)?)
         } else {
             let file = PlainFunnel::open(files, net, path, mark, is_followed)?;
@@ -86,15 +84,16 @@ impl<'a, F: AllocGlobal + Files<File = File>> Funnel<'a, F> {
         }
     }
 
-    /// Removes those segments of a tidied directory that are wholly at or below this mark and were read, if some may
-    /// have become removable since the last call. The last segment stays.
+    /// Removes those segments of a tidied directory whose lines are all acknowledged and were read, if some may have
+    /// become removable since the last call. The last segment stays. A funnel that is a file is left as it is: nothing
+    /// that it keeps can remove one.
     ///
     /// # Errors
     /// `Unremoved` if one cannot be removed; the system's error; `NoNumber`.
-    pub fn tidy(&mut self, mark: u64) -> Result<(), FunnelFault> {
+    pub fn tidy(&mut self, acknowledged: Acknowledged) -> Result<(), FunnelFault> {
         match &mut self.lines {
             Lines::File(_) => Ok(()),
-            Lines::Directory(segments) => segments.tidy(mark),
+            Lines::Directory(segments) => segments.tidy(acknowledged),
         }
     }
 }

@@ -31,7 +31,7 @@ impl OpenSegment {
         mark: u64,
     ) -> Result<Self, FunnelFault> {
         let segment = place.first;
-        let mut lines = LineFile::new(directory.files.alloc(), directory.open(segment)?)?;
+        let mut lines = LineFile::new(directory.alloc(), directory.open(segment)?)?;
         match lines.skip(place.skipped) {
             Ok(()) => {}
             Err(SkipFault::Failed(reason)) => return Err(FunnelFault::Segment { segment, reason }),

@@ -1,7 +1,11 @@
 // The directory of a funnel's segments.
+ghost use Rattle.std.specs.Prelude.{ℕ, Contains};
+ghost use Rattle.segments.specs.Firsts.{IsDone};
+
 use crate::fault::FunnelFault;
+use acknowledged_lines::Acknowledged;
 use segments::{AddFault, Listing, Segments, name_of};
-use std::alloc::AllocError;
+use std::alloc::{AllocError, Global};
 use std::fs::{self, File};
 use std::io::{self, ErrorKind};
 use std::os::unix::fs::MetadataExt;
@@ -11,11 +15,27 @@ use std::str;
 /// The directory of segments at a path. Names in it that are not 20 digits mean nothing.
 #[derive(Drop)]
 pub(crate) struct SegmentDirectory<'a, F> {
-    pub files: &'a F,
-    pub path: String,
+    // Files can be removed by it: nothing else in a funnel has one, and here `remove` alone does so.
+    files: &'a F,
+    path: String,
 }
 
-impl<F: AllocGlobal + Files<File = File>> SegmentDirectory<'_, F> {
+impl<'a, F: AllocGlobal + Files<File = File>> SegmentDirectory<'a, F> {
+    /// The directory at this path.
+    ///
+    /// # Errors
+    /// Memory was refused.
+    pub fn new(files: &'a F, path: &str) -> Result<Self, AllocError> {
+        Ok(SegmentDirectory {
+            files,
+            path: String::from_str(files.alloc(), path)?,
+        })
+    }
+
+    pub fn alloc(&self) -> Global {
+        self.files.alloc()
+    }
+
     /// The segments in it.
     ///
     /// # Errors
@@ -89,11 +109,37 @@ impl<F: AllocGlobal + Files<File = File>> SegmentDirectory<'_, F> {
         Ok(())
     }
 
-    /// Removes a segment, if it is there.
+    /// Removes segments, of these, which are all that were found. The `requires` keeps one from being removed before
+    /// all its lines are acknowledged.
     ///
     /// # Errors
-    /// `Unremoved`; memory was refused.
-    pub fn remove(&self, segment: u64) -> Result<(), FunnelFault> {
+    /// `Unremoved`, after which the others stay; memory was refused.
+    pub fn remove(
+        &self,
+        segments: &Segments,
+        done: &[u64],
+        acknowledged: Acknowledged,
+    ) -> Result<(), FunnelFault>
+        requires { (first : ℕ) → Contains done.now first
+            → IsDone segments.now acknowledged.number first }
+    {
+        for segment in done {
+            self.remove_one(segments, *segment, acknowledged)?;
+        }
+        Ok(())
+    }
+
+    // Removes a segment, if it is there.
+    fn remove_one(
+        &self,
+        segments: &Segments,
+        segment: u64,
+        acknowledged: Acknowledged,
+    ) -> Result<(), FunnelFault>
+        requires { IsDone segments.now acknowledged.number segment }
+    {
+        let _ = segments;
+        let _ = acknowledged;
         let path = self.path_of(segment)?;
         match fs::remove_file(self.files, path.as_str()) {
             Err(reason) if reason.kind() != ErrorKind::NotFound => Err(FunnelFault::Unremoved {

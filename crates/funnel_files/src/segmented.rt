@@ -8,6 +8,7 @@ use crate::position::Misfit;
 use crate::segment::OpenSegment;
 use crate::segment_directory::SegmentDirectory;
 use crate::tidying::Tidying;
+use acknowledged_lines::Acknowledged;
 use segments::SegmentPlace;
 use std::fs::File;
 use std::rt::{Clock, Files};
@@ -42,7 +43,7 @@ impl<'a, F: AllocGlobal + Files<File = File>> SegmentedFunnel<'a, F> {
         is_followed: bool,
         is_tidied: bool,
     ) -> Result<Self, FunnelFault> {
-        let names = HeldNames::new(directory.files.alloc());
+        let names = HeldNames::new(directory.alloc());
         let mut reader = SegmentedFunnel {
             directory,
             names,
@@ -201,16 +202,17 @@ impl<'a, F: AllocGlobal + Files<File = File>> SegmentedFunnel<'a, F> {
         Ok(())
     }
 
-    /// Removes the segments before the one with the line after this mark, as far as they were read, if the funnel is
-    /// tidied and some may have become removable since the last call. The name of the one that stays is durable, since
-    /// it was opened.
+    /// Removes the segments before the one with the line after those that are acknowledged, as far as they were read,
+    /// if the funnel is tidied and some may have become removable since the last call. The name of the one that stays
+    /// is durable, since it was opened.
     ///
     /// # Errors
     /// `Unremoved`; memory was refused.
-    pub fn tidy(&mut self, mark: u64) -> Result<(), FunnelFault> {
+    pub fn tidy(&mut self, acknowledged: Acknowledged) -> Result<(), FunnelFault> {
         let (Some(tidying), Some(open)) = (&mut self.tidying, &self.open) else {
             return Ok(());
         };
+        let mark = acknowledged.number();
         if !tidying.is_due(mark) {
             return Ok(());
         }
@@ -219,9 +221,8 @@ impl<'a, F: AllocGlobal + Files<File = File>> SegmentedFunnel<'a, F> {
             return Ok(());
         };
         let kept = place.first.min(open.position.segment());
-        for segment in segments.before(kept) {
-            self.directory.remove(*segment)?;
-        }
+        let done = segments.before(kept);
+        self.directory.remove(segments, done, acknowledged)?;
         tidying.remove(segments.after(kept));
         self.names.remove_before(kept);
         Ok(())

@@ -16,6 +16,7 @@ use crate::status_file::StatusFile;
 use crate::stop_file::StopFile;
 use crate::unknown_lines::UNKNOWN;
 use crate::unprinted::Unprinted;
+use acknowledged_lines::Acknowledged;
 use disk_model::{Disk, FileDisk, TapeDirectory, TapeFile};
 use feed_ends::{FeedEnd, FileError};
 use flusher::{IntakeShare, Naming, Pace, Post, PostFault, Receipt, Signals, Work};
@@ -84,8 +85,8 @@ pub struct IntakeWorker<'a, F, W, N: Naming> {
     pub room: Option<KeptRoom<'a, F>>,
     /// Where the buffers are named that are synced before lines are acknowledged, if they are.
     pub buffers: Option<&'a NamedBuffers>,
-    /// All lines up to this number are acknowledged: by the intake's tape as it was opened, or by a receipt.
-    pub acknowledged: u64,
+    /// The lines that are acknowledged: by the intake's tape as it was opened, or by a receipt.
+    pub acknowledged: Acknowledged,
     /// What of that is not printed yet.
     pub unprinted: Option<Unprinted>,
     /// When it was printed last, in a run that follows its funnel.
@@ -478,7 +479,7 @@ impl<F: AllocGlobal + Files<File = File>, W: Write, N: Naming> IntakeWorker<'_, 
 
     // Lines are acknowledged: prints that, if it is due.
     fn report<R: Clock>(&mut self, rt: &R, unprinted: Unprinted) -> Result<(), RunError> {
-        self.acknowledged = unprinted.last;
+        self.acknowledged = unprinted.acknowledged();
         self.unprinted = Some(unprinted);
         self.print_due(rt)
     }
@@ -518,7 +519,7 @@ impl<F: AllocGlobal + Files<File = File>, W: Write, N: Naming> IntakeWorker<'_, 
     // Prints `taken N`, and flushes the output: the receipt acknowledges all lines up to this one. The `requires` keeps
     // this from being printed without one.
     fn print_taken(&mut self, last: u64, receipt: &Receipt) -> io::Result<()>
-        requires { last ≤ receipt.now.number }
+        requires { last ≤ receipt.now.acknowledged.number }
     {
         let _ = receipt;
         self.out.write_all(b"taken ")?;

@@ -1,9 +1,11 @@
 // Opening the tapes of all peers and of the intake.
 ghost use Rattle.std.specs.Prelude.{◌≡◌, ◌++◌, ◌∷◌, [], IfOk, OnOk, false};
 ghost use Rattle.intake.specs.Tapes.{AddsPeer, AreParted, AreStations, IsStationOf};
+ghost use Rattle.recovery.specs.Words.{ledger_of, pending_of};
 
 use crate::disks::{Disks, OpenedFiles, open_disks};
 use crate::run_error::{INTAKE, RunError};
+use acknowledged_lines::Acknowledged;
 use disk_model::{FileDisk, TapeDirectory, TapeFile};
 use feed_conf::PeerConf;
 use flusher::PostPeer;
@@ -34,6 +36,8 @@ pub struct Tapes {
     /// The other peers.
     pub left_out: Vec<LeftOut>,
     pub intake: Tape<FileDisk<TapeFile>>,
+    /// The lines that are acknowledged, as the intake's tape was opened.
+    pub acknowledged: Acknowledged,
 }
 
 // What was opened so far.
@@ -61,6 +65,8 @@ pub fn open_tapes<R: Clock + Log, F: AllocGlobal + Files<File = File>>(
     ensures parted { IfOk result (λ tapes.
         AreParted peers.items tapes.confs.items tapes.left_out.items) }
     ensures all { leaves_out ≡ false → IfOk result (λ tapes. tapes.left_out.items ≡ []) }
+    ensures acknowledged { IfOk result
+        (λ tapes. tapes.acknowledged.number ≡ (ledger_of tapes.intake).mark) }
 {
     let alloc = files.alloc();
     let Disks {
@@ -81,12 +87,14 @@ pub fn open_tapes<R: Clock + Log, F: AllocGlobal + Files<File = File>>(
         Ok(intake) => intake,
         Err(error) => return Err(refused(rt, &directory, path, error)),
     };
+    let acknowledged = Acknowledged::of(&intake);
     Ok(Tapes {
         directory,
         confs,
         peers,
         left_out,
         intake,
+        acknowledged,
     })
 }
 
@@ -198,7 +206,9 @@ fn open_tape(
     alloc: Global,
     name: &[u8],
     files: OpenedFiles,
-) -> Result<Tape<FileDisk<TapeFile>>, RunError> {
+) -> Result<Tape<FileDisk<TapeFile>>, RunError>
+    ensures { IfOk result (λ tape. pending_of tape ≡ 0) }
+{
     let (a, b) = files?;
     match Tape::open(alloc, a, b) {
         Ok(tape) => Ok(tape),

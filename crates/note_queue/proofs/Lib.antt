@@ -1,4 +1,5 @@
 pub mod Beginning
 pub mod Joining
 pub mod Owning
+pub mod Putting
 pub mod Refusing

@@ -4,6 +4,7 @@ pub mod Folds
 pub mod Left
 pub mod Noted
 pub mod Owns
+pub mod OwnsLaws
 pub mod Relay
 pub mod RelayLaws
 pub mod SenderLaws

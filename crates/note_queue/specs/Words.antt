@@ -1,5 +1,5 @@
 -- What the two ends of a queue hold.
-use Rattle.std.specs.Prelude.{Option}
+use Rattle.std.specs.Prelude.{ℕ, Option}
 use Rattle.crossbeam_queue.specs.Passes.{Pass}
 use Rattle.disk_model.specs.declared.Disk.{Ghosts}
 use Rattle.ledger_core.specs.declared.note.Note.{Note}
@@ -29,3 +29,7 @@ module _ {D : Type 0} {g : Ghosts D} where
   -- the note that the tape refused
   abbrev pub kept_of : Side D g → Option Note
   kept_of side = side.kept
+
+  -- what its tape counted at the split
+  abbrev pub since_of : Side D g → ℕ
+  since_of side = side.since

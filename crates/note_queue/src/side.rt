@@ -1,9 +1,14 @@
 // The owner of a tape: it takes the notes of its queue, and puts them on the tape.
-ghost use Rattle.std.specs.Prelude.{◌≡◌, ◌↔◌, ◌+◌, ◌++◌, ◌∷◌, [], List, None, Some, true};
+ghost use Rattle.std.specs.Prelude.{◌≡◌, ◌↔◌, ◌+◌, ◌++◌, ◌∷◌, [], ℕ, List};
+ghost use Rattle.std.specs.Prelude.{None, Some, true};
 ghost use Rattle.std.specs.Prelude.{IfErr, IfOk, IsErrOf, IsOk, IsTrue, OnErr, OnOk};
 ghost use Rattle.crossbeam_queue.specs.Passes.{view};
 ghost use Rattle.ledger_core.specs.State.{State, after};
-ghost use Rattle.recovery.specs.Words.{IsBroken, IsDue, generation_of, ledger_of, pending_of, place_of};
+ghost use Rattle.recovery.specs.Notes.{History};
+ghost use Rattle.recovery.specs.Tape.{StandsFor};
+ghost use Rattle.recovery.specs.Takes.{Takes};
+ghost use Rattle.recovery.specs.Words.{IsBroken, IsDue, flushed_of, generation_of, ledger_of};
+ghost use Rattle.recovery.specs.Words.{pending_of, place_of};
 ghost use Rattle.note_queue.specs.Calls.{GoesOn, IsNotCalled, IsRefusedFor, TakesMore, TellsFaults};
 ghost use Rattle.note_queue.specs.Owns.{IsKept, IsOwner, LeavesFirst, kept_list, put_on};
 ghost use Rattle.note_queue.specs.Relay.{IsAt, WasSeen, may_pop};
@@ -22,25 +27,27 @@ pub struct Side<D: Disk> {
     pub(crate) tape: Tape<D>,
     pub(crate) pass: NotePass,
     pub(crate) kept: Option<Note>,
+    // What the tape counted as flushed at the split. What it counts beyond that are notes of the pass: so many of them
+    // are acknowledged, whoever flushed them.
+    pub(crate) since: u64,
     ghost role: { ((view pass).pops ≡ true) × (pass.me.1 ≡ []) },
     ghost last: { (view pass).got ≡ put_on (view pass).got kept ++ kept_list kept },
     ghost ledger: { ledger_of tape ≡ after (view pass).got_on (put_on (view pass).got kept) },
-    ghost owner: { ∥ IsOwner tape (view pass).got_on (put_on (view pass).got kept) ∥₁ },
+    ghost owner: { ∥ IsOwner tape (view pass).got_on since (put_on (view pass).got kept) ∥₁ },
 }
 
 impl<D: Disk> Side<D> {
-    ghost use Rattle.std.specs.Prelude.{◌≢◌, ℕ, IsSome, map};
+    ghost use Rattle.std.specs.Prelude.{◌≢◌, IsSome, map};
     ghost use Rattle.std.specs.List.{Contains};
     ghost use Rattle.ledger_core.specs.Index.{debt_at};
     ghost use Rattle.ledger_core.specs.Ledger.{totals_of};
     ghost use Rattle.ledger_core.specs.State.{IsOwed};
     ghost use Rattle.recovery.specs.Flushes.{Flushes, HasFlushed, RefusesFlush};
-    ghost use Rattle.recovery.specs.Notes.{History};
     ghost use Rattle.recovery.specs.Rotates.{RefusesRotation, Rotates};
-    ghost use Rattle.recovery.specs.Tape.{IsRead, StandsFor};
+    ghost use Rattle.recovery.specs.Tape.{IsRead};
     ghost use Rattle.recovery.specs.Texts.{HasLengths, debts_at, lengths_of};
     ghost use Rattle.recovery.specs.Words.{IsDebtFault};
-    ghost use Rattle.note_queue.specs.Ends.{IsSameEnd, KeepsFor};
+    ghost use Rattle.note_queue.specs.Ends.{IsOnDisks, IsSameEnd, KeepsFor, PutsMore};
 
     // The side of a tape on which nothing pends, with a pass that has taken nothing yet.
     pub(crate) fn new(tape: Tape<D>, pass: NotePass) -> Self
@@ -48,12 +55,15 @@ impl<D: Disk> Side<D> {
         requires works { IsBroken tape → ⊥ }
         requires none_pends { pending_of tape ≡ 0 }
         requires kept { ∥ IsKept tape ∥₁ }
-        ensures { (result.tape ≡ tape) × (result.pass ≡ pass) × (result.kept ≡ None) }
+        ensures parts { (result.tape ≡ tape) × (result.pass ≡ pass) × (result.kept ≡ None) }
+        ensures since { result.since ≡ flushed_of tape }
     {
+        let since = tape.flushed();
         Side {
             tape,
             pass,
             kept: None,
+            since,
         }
     }
 
@@ -70,8 +80,9 @@ impl<D: Disk> Side<D> {
     ) -> Result<(), TapeFault>
         requires queue { IsAt queue.now self.old.pass }
         ensures takes { TakesMore self.old.pass self.new.pass }
-        ensures moments { LeavesFirst (view self.new.pass).got_on (view self.new.pass).got
-            self.old.tape self.new.tape }
+        ensures puts { PutsMore self.old self.new }
+        ensures moments { LeavesFirst (view self.new.pass).got_on self.new.since
+            (view self.new.pass).got self.old.tape self.new.tape }
         ensures ok { OnOk result (self.new.kept ≡ None) }
         // At one moment of the call the queue was empty, and the pass had taken what it has now.
         ensures empty { OnOk result (WasSeen P.holds 0 (view self.new.pass)) }
@@ -90,6 +101,7 @@ impl<D: Disk> Side<D> {
     // Puts the kept note on the tape, if there is one.
     fn put_kept(&mut self) -> Result<(), TapeFault>
         ensures pass { self.new.pass ≡ self.old.pass }
+        ensures puts { PutsMore self.old self.new }
         ensures ok { OnOk result (self.new.kept ≡ None) }
         ensures err { IfErr result (KeepsFor self.new) }
         ensures keeps { IsNotCalled self.old.tape self.new.tape }
@@ -109,6 +121,7 @@ impl<D: Disk> Side<D> {
         requires queue { IsAt queue.now self.old.pass }
         requires none { self.old.kept ≡ None }
         ensures takes { TakesMore self.old.pass self.new.pass }
+        ensures puts { PutsMore self.old self.new }
         ensures ok { OnOk result (self.new.kept ≡ None) }
         ensures empty { IfOk result
             (λ taken. (IsTrue taken → ⊥) → WasSeen P.holds 0 (view self.new.pass)) }
@@ -130,15 +143,15 @@ impl<D: Disk> Side<D> {
     /// # Errors
     /// The tape's, in its order: `Broken`; `TapeFull`; `NoMemory`; `Disk`, which breaks the tape.
     pub fn flush(&mut self) -> Result<Flushed, TapeFault>
-        ensures moments { LeavesFirst (view self.old.pass).got_on (view self.old.pass).got
-            self.old.tape self.new.tape }
+        ensures moments { LeavesFirst (view self.old.pass).got_on self.old.since
+            (view self.old.pass).got self.old.tape self.new.tape }
         ensures flushes { (h : History) → StandsFor self.old.tape h
             → Flushes TapeFault.Disk h self.old.tape self.new.tape result }
         ensures ok { IfOk result
             (HasFlushed (place_of self.old.tape) self.old.tape self.new.tape) }
-        ensures empty { pending_of self.old.tape ≡ 0 → self.new.tape ≡ self.old.tape }
-        ensures empty_ok { pending_of self.old.tape ≡ 0
-            → (IsBroken self.old.tape → ⊥) → IsOk result }
+        ensures on_disks { IfOk result (λ flushed. IsOnDisks self.new flushed.count) }
+        ensures empty { pending_of self.old.tape ≡ 0 → (self.new.tape ≡ self.old.tape)
+            × ((IsBroken self.old.tape → ⊥) → IsOk result) }
         ensures refuses { RefusesFlush self.old.tape self.new.tape result }
         ensures keeps { IsSameEnd self.old self.new }
         ensures goes_on { GoesOn self.old.tape self.new.tape result }
@@ -159,13 +172,14 @@ impl<D: Disk> Side<D> {
     /// # Errors
     /// The tape's, in its order: `Broken`; `GenerationFull`; `TapeFull`; `NoMemory`; `Disk`, which breaks the tape.
     pub fn rotate(&mut self) -> Result<u64, TapeFault>
-        ensures moments { LeavesFirst (view self.old.pass).got_on (view self.old.pass).got
-            self.old.tape self.new.tape }
+        ensures moments { LeavesFirst (view self.old.pass).got_on self.old.since
+            (view self.old.pass).got self.old.tape self.new.tape }
         ensures rotates { (h : History) → StandsFor self.old.tape h
             → Rotates TapeFault.Disk h self.old.tape self.new.tape result }
         ensures generation { IfOk result (λ n. (n ≡ generation_of self.old.tape + 1)
             × (generation_of self.new.tape ≡ n)) }
         ensures none_pends { OnOk result (pending_of self.new.tape ≡ 0) }
+        ensures on_disks { OnOk result (IsOnDisks self.new (flushed_of self.new.tape)) }
         ensures refuses { RefusesRotation self.old.tape self.new.tape result }
         ensures keeps { IsSameEnd self.old self.new }
         ensures goes_on { GoesOn self.old.tape self.new.tape result }
@@ -189,8 +203,8 @@ impl<D: Disk> Side<D> {
         ensures faults { TellsFaults self.old.tape self.new.tape result }
         ensures reads { IsRead self.old.tape self.new.tape }
         ensures keeps { IsSameEnd self.old self.new }
-        ensures moments { LeavesFirst (view self.old.pass).got_on (view self.old.pass).got
-            self.old.tape self.new.tape }
+        ensures moments { LeavesFirst (view self.old.pass).got_on self.old.since
+            (view self.old.pass).got self.old.tape self.new.tape }
     {
         self.tape.debt(key)
     }
@@ -210,8 +224,8 @@ impl<D: Disk> Side<D> {
         ensures faults { TellsFaults self.old.tape self.new.tape result }
         ensures reads { IsRead self.old.tape self.new.tape }
         ensures keeps { IsSameEnd self.old self.new }
-        ensures moments { LeavesFirst (view self.old.pass).got_on (view self.old.pass).got
-            self.old.tape self.new.tape }
+        ensures moments { LeavesFirst (view self.old.pass).got_on self.old.since
+            (view self.old.pass).got self.old.tape self.new.tape }
     {
         self.tape.debts(keys)
     }
@@ -232,8 +246,10 @@ fn put<D: Disk>(tape: &mut Tape<D>, kept: &mut Option<Note>, note: Note) -> Resu
         ≡ put_on (notes ++ note ∷ []) kept.new ++ kept_list kept.new }
     ensures ledger { (base : State) (notes : List Note) → ledger_of tape.old ≡ after base notes
         → ledger_of tape.new ≡ after base (put_on (notes ++ note ∷ []) kept.new) }
-    ensures owner { (base : State) (notes : List Note) → ∥ IsOwner tape.old base notes ∥₁
-        → ∥ IsOwner tape.new base (put_on (notes ++ note ∷ []) kept.new) ∥₁ }
+    ensures owner { (base : State) (since : ℕ) (notes : List Note)
+        → ∥ IsOwner tape.old base since notes ∥₁
+        → ∥ IsOwner tape.new base since (put_on (notes ++ note ∷ []) kept.new) ∥₁ }
+    ensures takes { (h : History) → StandsFor tape.old h → Takes (note ∷ []) h tape.new result }
     ensures ok { OnOk result (kept.new ≡ None) }
     ensures err { OnErr result (kept.new ≡ Some note) }
     ensures refused { IfErr result (IsRefusedFor tape.new note) }

@@ -1,10 +1,11 @@
 // A station becomes the two ends of a queue: its front sends, and its tape has a side.
 ghost use Rattle.std.specs.Prelude.{◌≡◌, [], IfErr, IfOk, None};
 ghost use Rattle.crossbeam_queue.specs.Passes.{view, IsPassOf};
-ghost use Rattle.peer_queue.specs.Front.{IsFrontOf, IsPlaced};
+ghost use Rattle.peer_queue.specs.Front.{IsFrontOf, IsPlaced, settled_of};
 ghost use Rattle.peer_queue.specs.Words.{IsBroken, ledger_of, pending_of, tape_of};
 ghost use Rattle.note_queue.specs.Owns.{IsKept};
 ghost use Rattle.note_queue.specs.Relay.{IsAt, begun, may_pop, may_push};
+ghost use Rattle.note_queue.specs.Words.{since_of};
 
 use crate::rule::{NotePass, NoteQueue, split_pass};
 use crate::sender::Sender;
@@ -34,6 +35,8 @@ pub fn split<D: Disk>(
     ensures front { IfOk result (λ ends. IsFrontOf place station ends.0.front) }
     ensures tape { IfOk result (λ ends. IsPlaced place (tape_of station) ends.1.tape
         × (ends.1.kept ≡ None)) }
+    // The side counts from where the front does.
+    ensures since { IfOk result (λ ends. since_of ends.1 ≡ settled_of ends.0.front) }
     ensures returned { IfErr result (λ e. e.0 ≡ station) }
 {
     let mut sends = pass;

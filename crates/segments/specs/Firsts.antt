@@ -32,6 +32,11 @@ pub record IsNext (firsts : List ℕ) (first next : ℕ) : Type 0 where
 abbrev pub IsBefore : List ℕ → ℕ → ℕ → Type 0
 IsBefore firsts first other = Contains firsts other × (other < first)
 
+-- All lines of the segment that begins with this one are at or below the mark, if these are all: one of them begins
+-- above it, and no later than the line after the mark.
+abbrev pub IsDone : List ℕ → ℕ → ℕ → Type 0
+IsDone firsts mark first = (later : ℕ) × Contains firsts later × (first < later) × (later ≤ mark + 1)
+
 -- one that begins between two lines, and is none of those that are known
 pub record IsUnknown (firsts known : List ℕ) (above below first : ℕ) : Type 0 where
   pub there : Contains firsts first

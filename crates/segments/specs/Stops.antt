@@ -1,6 +1,7 @@
 -- A directory of segments while its funnel is written, read and cleared (profile). Until the directory is synced, a
 -- crash may lose a name that was put into it, and bring one back that was taken out.
 use Rattle.std.specs.Prelude.{◌≡◌, ◌==◌, ℕ, ◌+◌, ◌<◌, ◌≤◌, not, List, [], ◌∷◌, ◌++◌, filter, Contains}
+use Rattle.segments.specs.Firsts.{IsDone}
 
 pub record State : Type 0 where
   -- how many lines were written
@@ -53,7 +54,7 @@ IsAllowed state Sync = Unit {0}
 IsAllowed state (Acknowledge line) =
     (state.mark ≤ line) × (line ≤ state.lines)
     × (first : ℕ) × Contains state.sure first × Holds first line state.named
-IsAllowed state (Remove first) = (later : ℕ) × Contains state.sure later × (first < later) × (later ≤ state.mark + 1)
+IsAllowed state (Remove first) = IsDone state.sure state.mark first
 IsAllowed state (Crash left lines) = IsLeft state left × (state.mark ≤ lines)
 
 -- without this one

@@ -1,4 +1,4 @@
-use Rattle.std.proofs.Common.{◌≡◌, ◌∙◌, ℕ, List, [], refl, rules, subst, sym}
+use Rattle.std.proofs.Common.{◌≡◌, ◌∙◌, refl, rules, subst, sym}
 use Rattle.std.specs.Prelude.{IsTrue}
 use Rattle.peer_queue.specs.Words.{ledger_of}
 use Rattle.backlog_files.specs.Imports.{TakesIn, TakesSome}
@@ -7,6 +7,7 @@ use Rattle.backlog_files.specs.declared.fault.ImportFault.{ImportFault}
 use Rattle.backlog_files.specs.declared.fault.ImportFault.TheVariants.{Station}
 use Rattle.backlog_files.proofs.Reach.{empty_piece, ends_open, ends_refused, reaches_end, reaches_line, reaches_none}
 use Rattle.backlog_files.proofs.Reach.{reaches_piece, reaches_same, reaches_some}
+use Rattle.backlog_files.proofs.Takes.{stays_open}
 use Rattle.backlog_files.proofs.import.take_in.Goals as goal
 use Rattle.backlog_files.proofs.import.take_in.Goals.{in-Some+in_ok-take-in-Some, in-None+in_ok-read_piece-in-None+else-not-branch}
 
@@ -14,7 +15,8 @@ pub loop-init : goal.loop-init
 loop-init g c = (
   λ octets given known.
       reaches_none octets (ledger_of c.args.peer.now.station) c.new-import.result.number c.new-import.result.report
-      c.args.lines.now given known c.new-import.ensures.0 c.new-import.ensures.1,
+      c.args.lines given known c.new-import.ensures.0 c.new-import.ensures.1,
+  refl,
   refl,
 )
 
@@ -38,8 +40,8 @@ returns-in_err-read_piece-in-None-clause-imports g c octets given known =
     (c.loop.invariant.0 octets given known) (ends_open fault now now refl) in
     search (some, rules)
 
-pub returns-in_err-close-in-None-clause-imports : goal.returns-in_err-close-in-None-clause-imports
-returns-in_err-close-in-None-clause-imports g c octets given known =
+pub returns-in_err-source-in-None-clause-imports : goal.returns-in_err-source-in-None-clause-imports
+returns-in_err-source-in-None-clause-imports g c octets given known =
     let begun = ledger_of c.args.peer.now.station in
     let now = ledger_of c.loop.peer.station in
     let next = ledger_of c.close.new.peer.station in
@@ -47,7 +49,7 @@ returns-in_err-close-in-None-clause-imports g c octets given known =
     → TakesSome octets begun next fault = λ fault refused is.
     reaches_some octets begun now next c.loop.import.number c.loop.import.report fault c.loop.lines
     (c.loop.invariant.0 octets given known)
-    (ends_refused fault refused now next is c.in_err-close-in-None.ensures.refused) in
+    (ends_refused fault refused now next is c.in_err-source-in-None.ensures.refused) in
     search (some, rules)
 
 pub returns-then-not-branch-clause-imports : goal.returns-then-not-branch-clause-imports
@@ -63,9 +65,10 @@ returns-then-not-branch-clause-imports g c octets given known =
     let whole = reaches_end octets begun now (ledger_of c.close.new.peer.station) number report
     c.has_rest-has_rest.result c.next_read.new.self c.read_piece.new.self read.0 reached.0 reached.1 read.1
     (c.in_ok-read_piece-in-None.ensures.end none) (empty_piece read.0 c.in_ok-read_piece-in-None.field-0 read.2 none)
-    read.3 c.in_ok-close-in-None.ensures.closed.0 c.has_rest-has_rest.ensures in
-    subst (λ counts. TakesIn octets begun (ledger_of c.close.new.peer.station)
-    (record counts { has_rest = c.has_rest-has_rest.result })) (sym c.report.ensures) whole
+    read.3 c.in_ok-source-in-None.ensures.closed.0 c.has_rest-has_rest.ensures in
+    let counted = subst (λ counts. TakesIn octets begun (ledger_of c.close.new.peer.station)
+    (record counts { has_rest = c.has_rest-has_rest.result })) (sym c.report.ensures) whole in
+    subst (λ report. TakesIn octets begun (ledger_of c.close.new.peer.station) report) (sym c.new.ensures.0) counted
 
 pub loop-preserved : goal.loop-preserved
 loop-preserved g c = elim c.match-next_read.branch [
@@ -79,6 +82,9 @@ loop-preserved g c = elim c.match-next_read.branch [
         let line = w.in-Some.ensures.line read lines stands in (line.0, same ∙ line.1, line.2))
         w.in-Some.ensures.reader w.in_ok-take-in-Some.ensures.number w.in_ok-take-in-Some.ensures.taken,
     w.in_ok-take-in-Some.ensures.name ∙ c.loop.invariant.1,
+    let next = ledger_of w.take.new.peer.station in
+        stays_open (ledger_of c.args.peer.now.station) (ledger_of c.loop.peer.station) next _ _ _ _
+        w.in_ok-take-in-Some.ensures.taken c.loop.invariant.2,
   )
   | in-None+in_ok-read_piece-in-None+else-not-branch w ↦ rw (w.peer-is, w.lines-is, w.import-is) (
     λ octets given known.
@@ -90,6 +96,7 @@ loop-preserved g c = elim c.match-next_read.branch [
         reaches_piece octets begun now c.loop.import.number c.loop.import.report c.next_read.new.self
         w.read_piece.new.self read.0 reached.0 read.1 read.3,
     c.loop.invariant.1,
+    c.loop.invariant.2,
   )
 ]
 

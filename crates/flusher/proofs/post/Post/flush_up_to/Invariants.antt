@@ -1,9 +1,11 @@
-use Rattle.std.specs.Prelude.{◌≡◌}
+use Rattle.std.specs.Prelude.{◌≡◌, length}
+use Rattle.flusher.specs.Sealed.{IsDoneBelow}
 use Rattle.flusher.proofs.post.Post.flush_up_to.Given as goal
 
--- as many peers were flushed, for the same number
+-- all is settled at as many places, for the same number
 abbrev pub invariant-loop-peer : goal.invariant-loop-peer
 invariant-loop-peer g l = record {
-  flushed : l.sealing.flushed ≡ l.peer;
+  done : IsDoneBelow l.peer l.sealing.done.items;
+  places : length l.sealing.done.items ≡ length l.self.names;
   number : l.sealing.number ≡ l.fn.last.number;
 }
