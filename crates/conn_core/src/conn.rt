@@ -337,6 +337,23 @@ impl Conn {
         self.machine.sent(count)
     }
 
+    /// How many octets its output has room for, those that are still to be sent included. What was sent leaves its
+    /// room, for what comes next: up to 4,194,304 octets, if nothing is still to be sent.
+    pub fn output_room(&self) -> usize
+        ensures { length (output_at self.now) ≤ result }
+    {
+        self.machine.output_room()
+    }
+
+    /// Gives the room of its output back, all but that of a QUIT and of the octets that are still to be sent, which are
+    /// copied. If memory is refused for that, the room stays. It stands for the same transcripts, and its output is the
+    /// same.
+    pub fn give_room_back(&mut self)
+        ensures { self.new ≡ self.old }
+    {
+        self.machine.give_room_back()
+    }
+
     /// The next outcome, oldest first; `None` if there is none now.
     pub fn outcome(&mut self) -> Option<Outcome>
         ensures stands { (options : Options) (unread : List ℕ) (h : List Event)

@@ -35,20 +35,29 @@ pub(crate) fn id_len(id: &MsgId) -> usize
     id.bytes().len()
 }
 
-// The room that an empty output keeps, in octets; after a longer article it is given back.
-const OUTPUT_KEPT_MAX_OCTETS: usize = 262_144;
+// The room that an empty output keeps, in octets. If it has more, that is given back.
+const OUTPUT_KEPT_MAX_OCTETS: usize = 4_194_304;
 
-// Drops all octets without a copy. Their room is free again; if it is more than an output keeps, all but the room for
-// a QUIT is given back. If memory is refused for that, it stays.
+// Drops all octets without a copy. Their room is free again; if it is more than an output keeps, it is given back.
 pub(crate) fn empty(output: &mut BytesMut)
     ensures items { output.new.items ≡ [] }
     ensures spare { (6 ≤ output.new.spare) ⊎ (output.old.spare ≤ output.new.spare) }
 {
     output.clear();
     if output.capacity() > OUTPUT_KEPT_MAX_OCTETS {
-        if let Ok(small) = BytesMut::with_capacity(*output.allocator(), QUIT_OCTETS) {
-            *output = small;
-        }
+        give_room_back(output);
+    }
+}
+
+// Gives the room back, all but that of the octets and of a QUIT. If memory is refused for those, it stays.
+pub(crate) fn give_room_back(output: &mut BytesMut)
+    ensures items { output.new.items ≡ output.old.items }
+    ensures spare { (6 ≤ output.new.spare) ⊎ (output.old.spare ≤ output.new.spare) }
+{
+    let needed = output.len() + QUIT_OCTETS;
+    if let Ok(mut small) = BytesMut::with_capacity(*output.allocator(), needed) {
+        small.extend_reserved(output.as_slice());
+        *output = small;
     }
 }
 

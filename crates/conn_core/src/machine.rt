@@ -17,7 +17,7 @@ use crate::check_switch::CheckSwitch;
 use crate::codes::Verb;
 use crate::held::HeldDebts;
 use crate::kept::{AwaitedAsk, WantedArticle};
-use crate::lines::{QUIT_OCTETS, VERB_MAX_OCTETS, empty, id_len, put_line, skip};
+use crate::lines::{QUIT_OCTETS, VERB_MAX_OCTETS, empty, give_room_back, id_len, put_line, skip};
 use crate::lookup::is_wanted;
 use crate::mode::Mode;
 use crate::options::Options;
@@ -388,6 +388,20 @@ impl Machine {
         }
         self.clock.stirred = count > 0 || self.clock.stirred;
         skip(&mut self.output, count);
+    }
+
+    // How many octets the output has room for, those that wait included.
+    pub(crate) fn output_room(&self) -> usize
+        ensures { length self.now.output ≤ result }
+    {
+        self.output.capacity()
+    }
+
+    // The octets that wait stay.
+    pub(crate) fn give_room_back(&mut self)
+        ensures { self.new ≡ self.old }
+    {
+        give_room_back(&mut self.output);
     }
 
     pub(crate) fn outcome(&mut self) -> Option<Outcome>
