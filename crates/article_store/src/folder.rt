@@ -6,6 +6,7 @@ ghost use Rattle.article_store.specs.Finds.{IsFound};
 ghost use Rattle.article_store.specs.Paths.{root_of};
 ghost use Rattle.article_store.specs.Reads.{ConsumesAtMost, IsReadAs, answer_to};
 
+use crate::copy::copy_of;
 use crate::front::read_front;
 use crate::store::{Articles, Found, SpoolDirectory, StoreFault};
 use crate::unsendable::{Unsendable, unsendable_cause};
@@ -19,7 +20,8 @@ use std::str;
 
 /// Articles that are files below a directory: the text of a token is in the file whose path is the directory's, `/`
 /// and the token. Each fetch looks at, opens, reads and closes one file, and copies its text once. The path and the
-/// text are built in two buffers that are reused: one of the longest path, one of at most 16,777,217 octets.
+/// text are built in two buffers that are reused: one of the longest path, one of at most 16,777,217 octets. So is the
+/// room of the last article of 65,536 to 4,194,304 octets, once nobody else has that any more.
 #[derive(Drop)]
 pub struct Folder<F: Files + Drop> {
     files: F,
@@ -27,6 +29,8 @@ pub struct Folder<F: Files + Drop> {
     root: String,
     path: String,
     buffer: Vec<u8>,
+    // The last article whose room is to be reused.
+    last: Option<Bytes>,
     // The error of the last fetch that failed.
     reason: Option<io::Error>,
     // The cause of the last fetch that found a text that can't be sent.
@@ -49,6 +53,7 @@ impl<F: Files + Drop> Folder<F> {
             root,
             path: String::new(alloc),
             buffer: Vec::new(alloc),
+            last: None,
             reason: None,
             cause: None,
         })
@@ -79,9 +84,13 @@ impl<F: Files + Drop> Articles for Folder<F> {
         let path = build_path(&mut self.path, &self.root, token)?;
         let read = match fs::metadata(&self.files, path) {
             Ok(there) if there.is_file() => match File::open(&self.files, path) {
-                Ok(mut file) => {
-                    read_judged(self.alloc, &mut file, &mut self.buffer, &mut self.cause)
-                }
+                Ok(mut file) => read_judged(
+                    self.alloc,
+                    &mut file,
+                    &mut self.buffer,
+                    &mut self.last,
+                    &mut self.cause,
+                ),
                 Err(error) => Err(error),
             },
             Ok(there) if there.is_dir() => return Ok(Found::Gone),
@@ -137,14 +146,15 @@ pub fn read_article<R: Read>(
     ensures whole { IfSome (R.remaining reader.old) (λ text. IfOk result (IsReadAs text)) }
     ensures limit { ConsumesAtMost 16777217 (R.remaining reader.old) (R.remaining reader.new) }
 {
-    read_judged(alloc, reader, buffer, &mut None)
+    read_judged(alloc, reader, buffer, &mut None, &mut None)
 }
 
-// The same, and has the cause if it is `Unsendable`.
+// The same, in the room of the last article if nobody else has that any more; and has the cause if it is `Unsendable`.
 fn read_judged<R: Read>(
     alloc: Global,
     reader: &mut R,
     buffer: &mut Vec<u8>,
+    last: &mut Option<Bytes>,
     cause: &mut Option<Unsendable>,
 ) -> io::Result<Found>
     ensures sendable { IfOk result IsFound }
@@ -153,7 +163,7 @@ fn read_judged<R: Read>(
     ensures limit { ConsumesAtMost 16777217 (R.remaining reader.old) (R.remaining reader.new) }
 {
     let count = read_front(reader, buffer)?;
-    Ok(judge(alloc, &buffer[..count], cause)?)
+    Ok(judge(alloc, &buffer[..count], last, cause)?)
 }
 
 // A token is ASCII, so its octets are text.
@@ -170,14 +180,19 @@ fn build_path<'p>(path: &'p mut String, root: &String, token: &Token) -> Result<
 }
 
 // The text as an article if it can be sent; else `Unsendable`, with the cause.
-fn judge(alloc: Global, text: &[u8], cause: &mut Option<Unsendable>) -> Result<Found, AllocError>
+fn judge(
+    alloc: Global,
+    text: &[u8],
+    last: &mut Option<Bytes>,
+    cause: &mut Option<Unsendable>,
+) -> Result<Found, AllocError>
     ensures sendable { IfOk result IsFound }
     ensures said { IfOk result (IsReadAs text.now) }
     ensures cause { result ≡ Ok Found.Unsendable → cause.new ≡ Some (cause_of text.now) }
 {
     let found = unsendable_cause(text);
     if found.is_none() {
-        return Ok(Found::Article(Bytes::copy_from_slice(alloc, text)?));
+        return Ok(Found::Article(copy_of(alloc, text, last)?));
     }
     *cause = found;
     Ok(Found::Unsendable)

@@ -8,6 +8,7 @@
 //! member `says` a store says which text is under a token (`specs/Finds.antt`).
 #![tactic(auto)]
 
+mod copy;
 mod folder;
 mod front;
 mod mem;
