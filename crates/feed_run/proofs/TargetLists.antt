@@ -3,7 +3,7 @@ use Rattle.std.specs.Prelude.{◌≡◌, ◌+◌, ℕ, List, [], ◌∷◌, ◌+
 use Rattle.std.proofs.Common.{sym, ◌∙◌, ap, subst, arith, ◌<◌, take, get_or, length-take}
 use Rattle.std.proofs.lemmas.List.{take_more}
 use Rattle.feed_conf.specs.declared.conf.PeerConf.{PeerConf}
-use Rattle.feeder.specs.declared.target.PeerTarget.{PeerTarget}
+use Rattle.connections.specs.declared.target.PeerTarget.{PeerTarget}
 use Rattle.resolver.specs.declared.host.Host.{Host}
 use Rattle.feed_run.specs.Targets.{AreHosts, AreTargetsFrom, IsHostOf, IsTargetOf}
 

@@ -3,7 +3,7 @@ use Rattle.std.specs.Prelude.{◌≡◌, ◌⊎◌, ◌+◌, ℕ, List, [], ◌�
 use Rattle.std.specs.Str.{IsUtf8}
 use Rattle.conn_core.specs.declared.options.Options.{Options}
 use Rattle.feed_conf.specs.declared.conf.PeerConf.{PeerConf}
-use Rattle.feeder.specs.declared.target.PeerTarget.{PeerTarget}
+use Rattle.connections.specs.declared.target.PeerTarget.{PeerTarget}
 use Rattle.resolver.specs.declared.host.Host.{Host}
 
 -- Where the peer with these settings is. A name that is not UTF-8 is left empty.

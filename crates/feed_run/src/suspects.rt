@@ -1,6 +1,6 @@
 // Suspects, from one run to the next.
+use connections::Suspects;
 use feed_conf::PeerConf;
-use feeder::Suspects;
 use intake::{keep_suspects, log_malformed_suspects, read_suspects};
 use log::Log;
 use std::alloc::AllocError;

@@ -3,8 +3,8 @@ ghost use Rattle.std.specs.Prelude.{◌≡◌, IfOk, min};
 ghost use Rattle.feed_run.specs.Targets.{AreHosts, AreTargetsFrom, IsHostOf, IsTargetOf};
 
 use conn_core::Options;
+use connections::PeerTarget;
 use feed_conf::{Conf, PeerConf};
-use feeder::PeerTarget;
 use resolver::Host;
 use std::alloc::{AllocError, Global};
 use std::str;

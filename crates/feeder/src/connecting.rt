@@ -1,10 +1,11 @@
 // Opening connections.
 use crate::Feeder;
-use crate::logging::{log_unknown, log_unmade, name_of, text_of};
-use crate::peer_connection::{ConnectionOwner, PeerConnection};
+use crate::peer_state::name_of;
 use crate::post_view::PostView;
 use article_store::SpoolDirectory;
 use conn_core::{Conn, CxnId};
+use connections::logging::{log_unknown, log_unmade, text_of};
+use connections::{ConnectionOwner, PeerConnection};
 use disk_model::Disk;
 use event_loop::SocketLink;
 use flusher::{Naming, Pace};

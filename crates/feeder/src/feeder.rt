@@ -1,10 +1,12 @@
 // A feeder: its connections, their slots, and what it uses.
 ghost use Rattle.std.specs.Prelude.{◌≡◌, ◌+◌, ◌-◌, ◌/◌, ◌%◌};
 
-use crate::peer_connection::PeerConnection;
+use crate::FeederFault;
 use crate::peer_state::PeerState;
-use crate::{FeederFault, Outages, PeerTarget, Slot, Spool, SpoolTally, Suspects, UnreadPaths};
 use article_store::SpoolDirectory;
+use connections::{
+    Outages, PeerConnection, PeerTarget, Slot, Spool, SpoolTally, Suspects, UnreadPaths,
+};
 use flusher::{FeederShare, Naming};
 use mio::{Events, Poll, Token, Waker};
 use resolver::Resolver;

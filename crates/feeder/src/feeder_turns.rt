@@ -2,11 +2,7 @@
 ghost use Rattle.std.specs.Prelude.{◌≡◌, ◌-◌, nat_le};
 
 use crate::feeder::{EVENTS_MAX, WAKER_TOKEN};
-use crate::logging::{
-    log_connected, log_deferred, log_given_up, log_over, log_refused, log_stopped, name_of, text_of,
-};
-use crate::missing::{due_at, kept_until};
-use crate::peer_connection::PeerConnection;
+use crate::peer_state::name_of;
 use crate::post_view::{LentPost, PostView, is_of_tape};
 use crate::service::{ServiceEnv, service};
 use crate::uptime::{Uptime, timeout};
@@ -14,6 +10,10 @@ use crate::wake_reason::WakeReason;
 use crate::{Feeder, FeederFault};
 use article_store::SpoolDirectory;
 use conn_core::Reason;
+use connections::logging::{
+    log_connected, log_deferred, log_given_up, log_over, log_refused, log_stopped, text_of,
+};
+use connections::{PeerConnection, due_at, kept_until};
 use disk_model::Disk;
 use flusher::{Naming, Pace, Post, Signals, Who, Work};
 use log::Log;

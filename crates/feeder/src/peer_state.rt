@@ -1,7 +1,7 @@
 // A peer, as one feeder works for it.
-use crate::PeerTarget;
-use crate::setbacks::Setbacks;
 use crate::told_outages::UntoldOutage;
+use connections::logging::text_of;
+use connections::{PeerTarget, Setbacks};
 use std::alloc::Global;
 
 // How often in a run a peer's slots are tried again at once, after a connection that failed once its peer had agreed to
@@ -54,5 +54,13 @@ impl PeerState {
         let is_left = self.retries > 0;
         self.retries = self.retries.saturating_sub(1);
         is_left
+    }
+}
+
+/// The name of the peer with this index; empty if there is none.
+pub(crate) fn name_of(peers: &[PeerState], at: usize) -> &str {
+    match peers.get(at) {
+        Some(peer) => text_of(&peer.target.name),
+        None => "",
     }
 }

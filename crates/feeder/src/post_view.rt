@@ -1,53 +1,16 @@
-// A post as one feeder uses it in one turn, and what becomes of debts on their way to it.
-ghost use Rattle.std.specs.Prelude.{◌≡◌, ◌++◌, IfErr};
-ghost use Rattle.conn_core.specs.State.{untold_at};
-ghost use Rattle.feeder.specs.Articles.{HandsInNothing};
-ghost use Rattle.feeder.specs.Given.{IsReturned, outcomes_in};
+// A post as one feeder uses it in one turn.
+ghost use Rattle.std.specs.Prelude.{◌≡◌, IfErr};
+ghost use Rattle.connections.specs.Given.{IsReturned};
 
 use crate::FeederFault;
-use conn_core::{Conn, CxnId, Outcome};
+use conn_core::{CxnId, Outcome};
+use connections::GivenOutcome;
 use disk_model::Disk;
 use flusher::{FeederShare, Naming, Pace, Post, PostFault, Who};
 use ledger_core::Debt;
 use peer_queue::StationFault;
 use recovery::TapeFault;
 use std::sync::Wait;
-
-/// What became of a debt, as the connection that held it gave it. There is no other way to one, but for a debt that
-/// goes back because no connection has taken it. So no debt ends that its peer has not answered, and none is dropped
-/// that the connection has not given as lost.
-#[derive(Drop)]
-pub(crate) struct GivenOutcome {
-    outcome: Outcome,
-}
-
-impl GivenOutcome {
-    /// The next one of a connection.
-    pub fn next(conn: &mut Conn) -> Option<Self>
-        ensures given { untold_at conn.old ≡ outcomes_in result ++ untold_at conn.new }
-        ensures nothing { HandsInNothing conn.old conn.new }
-    {
-        match conn.outcome() {
-            Some(outcome) => Some(GivenOutcome { outcome }),
-            None => None,
-        }
-    }
-
-    /// That of a debt which no connection has taken.
-    pub fn back(debt: Debt) -> Self
-        ensures { result.outcome ≡ Outcome.Back debt }
-    {
-        GivenOutcome {
-            outcome: Outcome::Back(debt),
-        }
-    }
-
-    pub fn get(&self) -> &Outcome
-        ensures { result.now ≡ self.now.outcome }
-    {
-        &self.outcome
-    }
-}
 
 /// A post that is lent to a feeder for one turn.
 #[derive(Clone, Copy)]
@@ -67,7 +30,7 @@ pub(crate) struct PostView<'a, D: Disk, N: Naming, P: Pace> {
     pub who: Who,
     /// The time, in seconds since the run began.
     pub now: u64,
-    /// Before the last stage, debts that wait up to this time are offered ([`due_at`](crate::missing::due_at)).
+    /// Before the last stage, debts that wait up to this time are offered ([`connections::due_at`]).
     pub due: u64,
     /// Until when a missing article that is kept is put off.
     pub kept_until: u64,
@@ -114,7 +77,7 @@ impl<D: Disk, N: Naming, P: Pace> PostView<'_, D, N, P> {
             return Err((given, FeederFault::NoPeer));
         }
         self.pace.turn(self.who, flusher::Place::BeforeSettle);
-        let GivenOutcome { outcome } = given;
+        let (outcome, ticket) = given.into_outcome();
         let ended = self
             .post
             .0
@@ -122,7 +85,7 @@ impl<D: Disk, N: Naming, P: Pace> PostView<'_, D, N, P> {
         self.pace.turn(self.who, flusher::Place::AfterSettle);
         match ended {
             Ok(_) => Ok(()),
-            Err((outcome, fault)) => Err((GivenOutcome { outcome }, FeederFault::from(fault))),
+            Err((outcome, fault)) => Err((ticket.take_back(outcome), FeederFault::from(fault))),
         }
     }
 
@@ -138,21 +101,21 @@ impl<D: Disk, N: Naming, P: Pace> PostView<'_, D, N, P> {
         given: GivenOutcome,
         until: u64,
     ) -> Result<(), (GivenOutcome, FeederFault)>
-        requires { IsReturned given.outcome }
+        requires { IsReturned given }
         ensures { IfErr result (λ refused. refused.0 ≡ given) }
     {
-        let GivenOutcome { outcome } = given;
+        let (outcome, ticket) = given.into_outcome();
         match outcome {
             Outcome::Back(debt) => match self.put_off_debt(rt, peer, connection, debt, until) {
                 Ok(()) => Ok(()),
-                Err((debt, fault)) => Err((GivenOutcome::back(debt), fault)),
+                Err((debt, fault)) => Err((ticket.take_back(Outcome::Back(debt)), fault)),
             },
             Outcome::Lost(debt, cause) => {
                 match self.put_off_debt(rt, peer, connection, debt, until) {
                     Ok(()) => Ok(()),
                     Err((debt, fault)) => {
                         let outcome = Outcome::Lost(debt, cause);
-                        Err((GivenOutcome { outcome }, fault))
+                        Err((ticket.take_back(outcome), fault))
                     }
                 }
             }

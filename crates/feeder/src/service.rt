@@ -1,20 +1,19 @@
 // Servicing one connection: what came is taken in, what became of debts goes to the station, and more is sent.
 ghost use Rattle.std.specs.Prelude.{◌≡◌, IfErr};
-ghost use Rattle.feeder.specs.Given.{IsReturned};
+ghost use Rattle.connections.specs.Given.{IsReturned};
 
-use crate::debt_texts::texts_of;
-use crate::drop_count::DroppedArticle;
-use crate::last_stage::{ClaimStep, claim_step, stage_moment};
-use crate::logging::{log_kept, log_missing, log_postponed, log_suspect, log_unsendable, text_of};
-use crate::missing::{Step, step_of};
-use crate::peer_connection::PeerConnection;
+use crate::FeederFault;
 use crate::peer_state::PeerState;
-use crate::post_view::{GivenOutcome, PostView, is_busy, is_full};
-use crate::spool_tally::SpoolRule;
-use crate::unread_paths::UnreadPaths;
-use crate::{FeederFault, Spool, SpoolTally, Suspects};
+use crate::post_view::{PostView, is_busy, is_full};
 use article_store::SpoolDirectory;
 use conn_core::Outcome;
+use connections::logging::{
+    log_kept, log_missing, log_postponed, log_suspect, log_unsendable, text_of,
+};
+use connections::{
+    ClaimStep, DroppedArticle, GivenOutcome, OutcomeStep, PeerConnection, Spool, SpoolRule,
+    SpoolTally, Suspects, UnreadPaths, claim_step, stage_moment, step_of, texts_of,
+};
 use disk_model::Disk;
 use flusher::{FeederShare, Naming, Pace};
 use funnel::{MsgId, Token};
@@ -120,9 +119,9 @@ fn settle_one<D: Disk, N: Naming, S, R: Wait + Log, P: Pace>(
         env.tally.has_found(),
         env.drops_missing,
     ) {
-        Step::PutOff(until) => put_off(connection, rt, view, env.peer, given, until),
-        Step::Keep => keep(connection, rt, view, env, given),
-        Step::Finish => finish(connection, rt, view, env, given),
+        OutcomeStep::PutOff(until) => put_off(connection, rt, view, env.peer, given, until),
+        OutcomeStep::Keep => keep(connection, rt, view, env, given),
+        OutcomeStep::Finish => finish(connection, rt, view, env, given),
     }
 }
 
@@ -193,7 +192,8 @@ fn judge<S, N: Naming, R: Wait>(
     if !connection.is_without_spool() {
         env.suspects.add(rt, connection.peer(), debt);
     }
-    connection.judge(debt.key(), env.peer, now)
+    let is_last_stage = env.peer.is_last_stage;
+    connection.judge(debt.key(), &mut env.peer.setbacks, now, is_last_stage)
 }
 
 // Drops a debt whose article is missing or cannot be sent, logs that, and counts it.
@@ -234,7 +234,7 @@ fn keep<D: Disk, N: Naming, S, R: Wait + Log, P: Pace>(
     env: &ServiceEnv<'_, S, N>,
     given: GivenOutcome,
 ) -> Result<(), (GivenOutcome, FeederFault)>
-    requires { IsReturned given.outcome }
+    requires { IsReturned given }
     ensures { IfErr result (λ refused. refused.0 ≡ given) }
 {
     let words = words_in(given.get());
@@ -256,7 +256,7 @@ fn put_off<D: Disk, N: Naming, R: Wait + Log, P: Pace>(
     given: GivenOutcome,
     until: u64,
 ) -> Result<(), (GivenOutcome, FeederFault)>
-    requires { IsReturned given.outcome }
+    requires { IsReturned given }
     ensures { IfErr result (λ refused. refused.0 ≡ given) }
 {
     let words = words_in(given.get());
@@ -279,7 +279,7 @@ fn log_put_off<R: Log>(
     if connection.is_without_spool() {
         log_kept(rt, name, token, id);
     } else {
-        log_postponed(rt, name, token, id, connection.close_reason());
+        log_postponed(rt, name, token, id, connection);
     }
 }
 

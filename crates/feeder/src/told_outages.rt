@@ -1,8 +1,9 @@
 // What a feeder logs of peers that are down, in a run that goes on until it is ended.
 use crate::Feeder;
-use crate::logging::{HowOver, log_down, log_up, name_of, text_of};
-use crate::peer_connection::PeerConnection;
+use crate::peer_state::name_of;
 use article_store::SpoolDirectory;
+use connections::PeerConnection;
+use connections::logging::{HowOver, log_down, log_up, text_of};
 use flusher::Naming;
 use log::Log;
 use std::io;

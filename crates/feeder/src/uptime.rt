@@ -1,6 +1,6 @@
 // The time since a run began.
 use crate::FeederFault;
-use crate::logging::log_refused;
+use connections::logging::log_refused;
 use log::Log;
 use std::time::{Clock, Duration, Instant};
 

@@ -1,0 +1,11 @@
+use Rattle.std.specs.Prelude.{not}
+use Rattle.std.proofs.Common.{rules}
+use Rattle.std.proofs.lemmas.Fn.{filter_same}
+use Rattle.connections.specs.declared.suspect_list.Suspect.{Suspect}
+use Rattle.connections.specs.Suspects.{has_key}
+use Rattle.connections.proofs.suspect_list.SuspectList.forget.Goals as goal
+
+pub returns : goal.returns
+returns c =
+    filter_same _ (λ (one : Suspect). not (has_key c.args.key one.state)) _ (λ x b f t. search rules) _ _
+    c.retain.ensures.filtered

@@ -1,6 +1,0 @@
--- A receipt.
-use Rattle.feeder.proofs.Calls.{receipt_nothing}
-use Rattle.feeder.proofs.peer_connection.receive_once.Goals as goal
-
-pub returns : goal.returns
-returns c = receipt_nothing c.take_in.result _ _ _ c.take_in.ensures.stands

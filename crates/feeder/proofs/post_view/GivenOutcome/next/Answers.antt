@@ -1,9 +1,0 @@
--- An outcome that is taken.
-use Rattle.feeder.proofs.Calls.{taken_nothing}
-use Rattle.feeder.proofs.post_view.GivenOutcome.next.Goals as goal
-
-pub returns-in-Some-clause-nothing : goal.returns-in-Some-clause-nothing
-returns-in-Some-clause-nothing c = taken_nothing c.outcome.result _ _ c.outcome.ensures.stands
-
-pub returns-in-None-clause-nothing : goal.returns-in-None-clause-nothing
-returns-in-None-clause-nothing c = taken_nothing c.outcome.result _ _ c.outcome.ensures.stands
