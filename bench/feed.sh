@@ -5,9 +5,10 @@
 #     the best of RUNS runs (2): from a backlog (-x), and from a funnel with its durable flushes. Where Debian's inn2
 #     is installed INN's innfeed works off the same articles from a backlog file in the same run, and the ratios are ours
 #     to its; elsewhere the articles a second stand alone. Beside them the time of an fdatasync in the same minute;
-#   before: the same without INN's, if $BEFORE names another checkout of this repository, in which the program is built:
-#     both run by turns, and it is printed how many times its articles a second ours are (aim: nowhere below 0.95, of
-#     the best of five runs), and how many times its processor time an article;
+#   before: the same without INN's, and of a twentieth as many of 1 MiB, if $BEFORE names another checkout of this
+#     repository, in which the program is built: both run by turns, and it is printed how many times its articles a
+#     second ours are (aim: nowhere below 0.95, of the best of five runs), and how many times its processor time an
+#     article;
 #   costs: from a backlog, the processor time an article, ours to INN's; and, where strace is there, the system calls an
 #     article;
 #   late: from a backlog, the part of the window that is used at a peer whose answers take 20 ms;
@@ -167,10 +168,16 @@ beside() {
   }'
 }
 
+# large_articles: a twentieth as many articles of 1 MiB, ten of which are one file.
+large_articles() {
+  size=1048576
+  articles "$size" $((most / 20 + 1)) $((most / 200 + 1))
+}
+
 # large: rates and processor time of articles of 1 MiB.
 large() {
   local connections turn line
-  articles 1048576 $((most / 20 + 1)) $((most / 200 + 1))
+  large_articles
   for connections in 1 2 4 64; do
     rm -f ours.* inns ./*.spent
     for ((turn = 0; turn < runs; turn++)); do
@@ -258,7 +265,7 @@ cc -O2 -o bare "$top/bench/bare.c"
 for part in "${parts[@]}"; do
   case $part in
     rates) each_size cell_rates ;;
-    before) [ -z "${BEFORE-}" ] || each_size cell_ratios ;;
+    before) [ -z "${BEFORE-}" ] || { each_size cell_ratios; large_articles; cell_ratios; } ;;
     costs) each_size cell_costs ;;
     late) window ;;
     1MiB) large ;;

@@ -11,6 +11,7 @@ use crate::close_reason::{CloseReason, ObservedEnd, SessionStage, begins_with_co
 use crate::deferrals::Deferrals;
 use crate::descriptors::unread_article;
 use crate::given_outcome::GivenOutcome;
+use crate::large_rooms::LargeRooms;
 use crate::last_stage::failed_until;
 use crate::line_head::LineHead;
 use crate::logging::log_unread;
@@ -105,6 +106,8 @@ pub struct PeerConnection {
     deferred: Deferrals,
     // Since which second it has held nothing, once its peer has agreed to a mode.
     idle_since: Option<u64>,
+    // With how many octets its output's room is counted among the large ones.
+    large_room: usize,
 }
 
 impl PeerConnection {
@@ -140,6 +143,7 @@ impl PeerConnection {
             kept: None,
             deferred: Deferrals::new(),
             idle_since: None,
+            large_room: 0,
         }
     }
 
@@ -448,6 +452,42 @@ impl PeerConnection {
         }
         self.is_dirty = true;
         sent
+    }
+
+    /// Counts the room of its output. If large rooms are too much then, and nothing is to be sent, gives its own back.
+    pub fn count_room(&mut self, rooms: &mut LargeRooms)
+        ensures { self.new.conn ≡ self.old.conn }
+    {
+        self.large_room = rooms.count(self.large_room, self.conn.output_room());
+        if rooms.are_too_much() && self.conn.output().is_empty() {
+            self.give_room_back(rooms);
+        }
+    }
+
+    /// If it holds no debt, gives a large room of its output back.
+    pub fn rest(&mut self, rooms: &mut LargeRooms)
+        ensures { self.new.conn ≡ self.old.conn }
+    {
+        if !self.holds_debts() {
+            self.give_room_back(rooms);
+        }
+    }
+
+    // If the room of its output is large, gives that back.
+    fn give_room_back(&mut self, rooms: &mut LargeRooms)
+        ensures { self.new.conn ≡ self.old.conn }
+    {
+        if self.large_room > 0 {
+            self.conn.give_room_back();
+            self.large_room = rooms.count(self.large_room, self.conn.output_room());
+        }
+    }
+
+    /// Its room is no longer counted: it is dropped.
+    pub fn uncount_room(&mut self, rooms: &mut LargeRooms)
+        ensures { self.new.conn ≡ self.old.conn }
+    {
+        self.large_room = rooms.count(self.large_room, 0);
     }
 
     /// Whether all output was sent, and more can be put out at once.

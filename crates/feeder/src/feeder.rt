@@ -5,7 +5,7 @@ use crate::FeederFault;
 use crate::peer_state::PeerState;
 use article_store::SpoolDirectory;
 use connections::{
-    Outages, PeerConnection, PeerTarget, Slot, Spool, SpoolTally, Suspects, UnreadPaths,
+    LargeRooms, Outages, PeerConnection, PeerTarget, Slot, Spool, SpoolTally, Suspects, UnreadPaths,
 };
 use flusher::{FeederShare, Naming};
 use mio::{Events, Poll, Token, Waker};
@@ -64,6 +64,8 @@ pub struct Feeder<S: SpoolDirectory + Drop, C: Net + Drop, N: Naming> {
     // For each peer, how many slots there are up to its last.
     ends: Vec<usize>,
     pub(crate) connections: Slab<PeerConnection>,
+    // The large rooms of their outputs.
+    pub(crate) rooms: LargeRooms,
     pub(crate) poll: Poll,
     pub(crate) events: Events,
     pub(crate) buffer: Vec<u8>,
@@ -131,6 +133,7 @@ impl<S: SpoolDirectory + Drop, C: Net + Drop, N: Naming> Feeder<S, C, N> {
             slots,
             ends,
             connections: Slab::new(alloc),
+            rooms: LargeRooms::new(),
             poll,
             events,
             buffer,

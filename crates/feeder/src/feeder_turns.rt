@@ -196,6 +196,7 @@ impl<S: SpoolDirectory + Drop, C: Net + Drop, N: Naming> Feeder<S, C, N> {
             return;
         };
         connection.tick(view.now);
+        connection.rest(&mut self.rooms);
         if self.is_lasting {
             view.give_room(connection.peer(), connection.leave_idle(view.now));
         }
@@ -239,11 +240,19 @@ impl<S: SpoolDirectory + Drop, C: Net + Drop, N: Naming> Feeder<S, C, N> {
             }
             Err(fault) => return Err(fault),
         }
+        self.count_room(key);
         self.on_agreed(rt, view, key);
         if self.connections.get(key).is_some_and(|one| one.is_over()) {
             self.remove(rt, view, key);
         }
         Ok(())
+    }
+
+    // Counts the room of a connection's output after its service.
+    fn count_room(&mut self, key: usize) {
+        if let Some(connection) = self.connections.get_mut(key) {
+            connection.count_room(&mut self.rooms);
+        }
     }
 
     /// A connection, and what servicing it uses.
@@ -365,6 +374,7 @@ impl<S: SpoolDirectory + Drop, C: Net + Drop, N: Naming> Feeder<S, C, N> {
         connection: PeerConnection,
     ) {
         let mut connection = connection;
+        connection.uncount_room(&mut self.rooms);
         view.give_room(connection.peer(), connection.room());
         let last_phase = self.last_phase_since.is_some();
         if !connection.is_made() {
