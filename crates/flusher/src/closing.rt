@@ -1,11 +1,10 @@
 // Closing a post.
-ghost use Rattle.std.specs.Prelude.{◌≡◌, ℕ, ◌+◌, ◌≤◌, [], List, map, length};
+ghost use Rattle.std.specs.Prelude.{◌≡◌, ◌+◌, ◌≤◌, [], length};
 ghost use Rattle.std.specs.Prelude.{IfErr, IfOk, OnOk};
-ghost use Rattle.std.specs.List.{All};
 ghost use Rattle.std.specs.Vec.{vec_capacity};
-ghost use Rattle.flusher.specs.Closed.{HandsBack};
+ghost use Rattle.flusher.specs.Closed.{HandsBack, IsClosed};
+ghost use Rattle.flusher.specs.Faults.{IsEndFault};
 ghost use Rattle.flusher.specs.Names.{IsTableAt};
-ghost use Rattle.flusher.specs.Post.{View, sums_in, total};
 ghost use Rattle.note_queue.specs.Folds.{Folds};
 ghost use Rattle.peer_queue.specs.Front.{front_shape};
 
@@ -19,7 +18,7 @@ use crate::share::{FeederShare, IntakeShare};
 use crate::stray::Stray;
 use crate::tally::Tally;
 use crate::tape_desk::TapeDesk;
-use crate::{Naming, Post};
+use crate::{Naming, Post, PostFault};
 use disk_model::Disk;
 use funnel::PeerName;
 use ledger_core::Note;
@@ -160,23 +159,7 @@ impl<D: Disk + Drop, N: Naming> Post<D, N> {
         second: FeederShare<N>,
         third: FeederShare<N>,
     ) -> Result<ClosedPost<D>, CloseFault<D, N>>
-        ensures taken { IfOk result
-            (λ r. (total (map sums_in r.peers.items)).taken ≡ (total self.opened).taken
-            + intake.taken) }
-        ensures answered { IfOk result
-            (λ r. (total (map sums_in r.peers.items)).answered ≡ (total self.opened).answered
-            + (first.answered + second.answered + third.answered)) }
-        ensures dropped { IfOk result
-            (λ r. (total (map sums_in r.peers.items)).dropped ≡ (total self.opened).dropped
-            + (first.dropped + second.dropped + third.dropped)) }
-        ensures sums { IfOk result
-            (λ r. (r.sums.taken ≡ intake.taken)
-            × (r.sums.answered ≡ first.answered + second.answered + third.answered)
-            × (r.sums.dropped ≡ first.dropped + second.dropped + third.dropped)) }
-        ensures names { IfOk result
-            (λ r. (map (λ p. p.name) r.peers.items ≡ self.names)
-            × (map (λ p. p.opened) r.peers.items ≡ self.opened)) }
-        ensures folds { IfOk result (λ r. All (λ p. Folds p.ends) r.peers.items) }
+        ensures closes { IfOk result (IsClosed self intake first second third) }
         ensures returned { IfErr result (HandsBack self intake first second third) }
     {
         let Ok((mut closed, mut rooms)) = rooms(self.alloc, self.peers.len()) else {
@@ -238,6 +221,30 @@ impl<D: Disk + Drop, N: Naming> Post<D, N> {
                 dropped,
             },
         })
+    }
+
+    /// Closes the post at the end of a run, as `close` does. What is not closed is let go.
+    ///
+    /// # Errors
+    /// `NoMemory`: memory was refused. `Stranger`, which no run meets: a lock of this peer held what is another peer's.
+    pub fn end<R: Wait>(
+        self,
+        rt: &R,
+        intake: IntakeShare<N>,
+        first: FeederShare<N>,
+        second: FeederShare<N>,
+        third: FeederShare<N>,
+    ) -> Result<ClosedPost<D>, PostFault>
+        ensures closes { IfOk result (IsClosed self intake first second third) }
+        ensures refuses { IfErr result (IsEndFault (length self.names)) }
+    {
+        match self.close(rt, intake, first, second, third) {
+            Ok(closed) => Ok(closed),
+            Err(CloseFault::NoMemory(_)) => Err(PostFault::NoMemory),
+            Err(CloseFault::Stranger { stray, .. }) => Err(PostFault::Stranger {
+                peer: stray.place(),
+            }),
+        }
     }
 }
 

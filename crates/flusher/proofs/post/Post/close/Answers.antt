@@ -114,63 +114,43 @@ returns-in-Err-clause-returned g c =
       folds = l.invariant.15;
     }
 
-pub returns-clause-names : goal.returns-clause-names
-returns-clause-names g c =
+-- what the shares have is what the workers' books count, and by that the stations' books have risen
+pub returns-clause-closes : goal.returns-clause-closes
+returns-clause-closes g c =
     let l = c.loop-peer in
-    let none : l.peer-iterator.rest.items ≡ [] = nothing _ (search rules) in (
-      sym (all_moved _) ∙ (sym (ap (λ r. map (λ p. p.name) l.closed.items ++ map (λ q. q.name) r) none)
-          ∙ l.invariant.2),
-      sym (all_moved _) ∙ (sym (ap (λ r. map (λ p. p.opened) l.closed.items ++ map (λ q. q.opened) r) none)
-          ∙ l.invariant.3),
-    )
-
-pub returns-clause-sums : goal.returns-clause-sums
-returns-clause-sums g c = (
-  c.parts-taken.ensures.count.0 ∙
-      (sym c.parts-taken.ensures.count.1 ∙ (sym (c.audit-4.ensures.whole c.intake.invariant.0)
-      ∙ ap (λ (s : IntakeCount). s.taken) c.intake.view_is)),
-  c.parts-answered.ensures.count.0
-      ∙ (sym c.parts-answered.ensures.count.1
-      ∙ (sym (c.audit-5.ensures.whole c.joined-told_answered.ensures.answered.0)
-      ∙ c.joined-told_answered.ensures.answered.1)),
-  c.parts-dropped.ensures.count.0
-      ∙ (sym c.parts-dropped.ensures.count.1
-      ∙ (sym (c.audit-6.ensures.whole c.joined-told_answered.ensures.dropped.0)
-      ∙ c.joined-told_answered.ensures.dropped.1)),
-)
-
-pub returns-clause-taken : goal.returns-clause-taken
-returns-clause-taken g c =
-    let l = c.loop-peer in
+    let none : l.peer-iterator.rest.items ≡ [] = nothing _ (search rules) in
     let zero : length l.peer-iterator.rest.items ≡ 0 = search rules in
-    let whole : l.all.taken.parts ≡ g.N.Naming.names.peers = omega (arith, zero, l.invariant.4, l.invariant.6) in
-    let opened : g.N.Naming.names.opened.taken ≡ (total c.args.self.opened).taken =
-    sym (ap (λ n. n.taken) (sym (ap (λ v. total v.opened) c.self.view_is) ∙ c.self.invariant.1)) in
-    let told : c.into_inner-taken.result ≡ _ = sym c.parts-taken.ensures.count.1
+    let opened = sym (ap (λ v. total v.opened) c.self.view_is) ∙ c.self.invariant.1 in
+    let taken = sym c.parts-taken.ensures.count.1
     ∙ (sym (c.audit-4.ensures.whole c.intake.invariant.0) ∙ ap (λ (s : IntakeCount). s.taken) c.intake.view_is) in
-    sym l.invariant.9 ∙ (c.audit.ensures.whole whole ∙ (c.parts-taken.ensures.stations ∙ (λ i. opened i + told i)))
-
-pub returns-clause-answered : goal.returns-clause-answered
-returns-clause-answered g c =
-    let l = c.loop-peer in
-    let zero : length l.peer-iterator.rest.items ≡ 0 = search rules in
-    let whole : l.all.answered.parts ≡ g.N.Naming.names.peers = omega (arith, zero, l.invariant.4, l.invariant.7) in
-    let opened : g.N.Naming.names.opened.answered ≡ (total c.args.self.opened).answered =
-    sym (ap (λ n. n.answered) (sym (ap (λ v. total v.opened) c.self.view_is) ∙ c.self.invariant.1)) in
-    let told : c.into_inner-answered.result.answered ≡ _ = sym c.parts-answered.ensures.count.1
+    let answered = sym c.parts-answered.ensures.count.1
     ∙ (sym (c.audit-5.ensures.whole c.joined-told_answered.ensures.answered.0)
     ∙ c.joined-told_answered.ensures.answered.1) in
-    sym l.invariant.10 ∙ (c.audit-2.ensures.whole whole
-    ∙ (c.parts-answered.ensures.stations ∙ (λ i. opened i + told i)))
-
-pub returns-clause-dropped : goal.returns-clause-dropped
-returns-clause-dropped g c =
-    let l = c.loop-peer in
-    let zero : length l.peer-iterator.rest.items ≡ 0 = search rules in
-    let whole : l.all.dropped.parts ≡ g.N.Naming.names.peers = omega (arith, zero, l.invariant.4, l.invariant.8) in
-    let opened : g.N.Naming.names.opened.dropped ≡ (total c.args.self.opened).dropped =
-    sym (ap (λ n. n.dropped) (sym (ap (λ v. total v.opened) c.self.view_is) ∙ c.self.invariant.1)) in
-    let told : c.into_inner-answered.result.dropped ≡ _ = sym c.parts-dropped.ensures.count.1
+    let dropped = sym c.parts-dropped.ensures.count.1
     ∙ (sym (c.audit-6.ensures.whole c.joined-told_answered.ensures.dropped.0)
     ∙ c.joined-told_answered.ensures.dropped.1) in
-    sym l.invariant.11 ∙ (c.audit-3.ensures.whole whole ∙ (c.parts-dropped.ensures.stations ∙ (λ i. opened i + told i)))
+    let all_taken : l.all.taken.parts ≡ g.N.Naming.names.peers = omega (arith, zero, l.invariant.4, l.invariant.6) in
+    let all_answered : l.all.answered.parts ≡ g.N.Naming.names.peers =
+    omega (arith, zero, l.invariant.4, l.invariant.7) in
+    let all_dropped : l.all.dropped.parts ≡ g.N.Naming.names.peers =
+    omega (arith, zero, l.invariant.4, l.invariant.8) in
+    record {
+      taken = sym l.invariant.9 ∙ (c.audit.ensures.whole all_taken
+          ∙ (c.parts-taken.ensures.stations ∙ (λ i. (sym opened i).taken + taken i)));
+      answered = sym l.invariant.10 ∙ (c.audit-2.ensures.whole all_answered
+          ∙ (c.parts-answered.ensures.stations ∙ (λ i. (sym opened i).answered + answered i)));
+      dropped = sym l.invariant.11 ∙ (c.audit-3.ensures.whole all_dropped
+          ∙ (c.parts-dropped.ensures.stations ∙ (λ i. (sym opened i).dropped + dropped i)));
+      sums = (
+        c.parts-taken.ensures.count.0 ∙ taken,
+        c.parts-answered.ensures.count.0 ∙ answered,
+        c.parts-dropped.ensures.count.0 ∙ dropped,
+      );
+      names = (
+        sym (all_moved _) ∙ (sym (ap (λ r. map (λ p. p.name) l.closed.items ++ map (λ q. q.name) r) none)
+            ∙ l.invariant.2),
+        sym (all_moved _) ∙ (sym (ap (λ r. map (λ p. p.opened) l.closed.items ++ map (λ q. q.opened) r) none)
+            ∙ l.invariant.3),
+      );
+      folds = l.invariant.15;
+    }
