@@ -7,6 +7,7 @@
 //! wait.
 #![tactic(auto)]
 
+mod ending;
 mod run;
 mod spool;
 mod spool_sync;

@@ -4,9 +4,10 @@ ghost use Rattle.std.specs.List.{All};
 ghost use Rattle.flusher.specs.Post.{IsFor, names_of};
 ghost use Rattle.flusher.specs.Sealed.{IsFlushed};
 
+use crate::ending::{close_run, ended_workers, left_by};
 use crate::spool::{SpoolPaths, SpoolPlaces, Spools};
 use crate::spool_sync::{SpoolSync, SyncedBuffers};
-use crate::start_and_end::{log_end, log_no_login, log_start};
+use crate::start_and_end::{log_no_login, log_start};
 use crate::suspects::{keep_all, suspects_of};
 use crate::targets::{by_name, hosts_of, targets_of};
 use acknowledged_lines::Acknowledged;
@@ -15,18 +16,17 @@ use connections::{Outages, PeerTarget, Spool, SpoolTally, Suspects, UnreadPaths}
 use disk_model::{FileDisk, TapeDirectory, TapeFile};
 use feed_conf::{Conf, PeerConf};
 use feed_ends::{FeedEnd, FileError, Source};
-use feeder::{Feeder, FeederFault};
+use feeder::Feeder;
 use flusher::{
-    Blanks, FeederShare, Flusher, Free, IntakeShare, Naming, NoThread, Post, PostFault, PostPeer,
-    Signals, run_threads,
+    Blanks, FeederShare, Flusher, Free, IntakeShare, Naming, Post, PostPeer, Signals, run_threads,
 };
 use funnel::PeerName;
 use funnel_files::Funnel;
 use intake::{
     Countdown, CountedWorker, IntakeWorker, KeptRoom, LeftOut, LineKeeper, NamedBuffers, Nowhere,
-    OtherFiles, Progress, RunError, StatusFile, StopFile, Tapes, add_all, close, flush_stations,
-    is_followed, keeper_for, log_reason, log_tape_fault, log_unknown_lines, most_connections,
-    open_funnel, open_tapes, refuse_root, remove_room, remove_stop, take_backlogs,
+    OtherFiles, Progress, RunError, StatusFile, StopFile, Tapes, flush_stations, is_followed,
+    keeper_for, log_reason, log_tape_fault, log_unknown_lines, most_connections, open_funnel,
+    open_tapes, refuse_root, remove_room, take_backlogs,
 };
 use log::Log;
 use mio::Waker;
@@ -103,7 +103,6 @@ struct Feeding<S> {
 // What the intake is made of, besides its share.
 #[derive(Drop)]
 struct Taking<'a, F> {
-    names: Vec<PeerName>,
     funnel: Option<Funnel<'a, F>>,
     keeper: LineKeeper,
     room: Option<KeptRoom<'a, F>>,
@@ -118,7 +117,11 @@ struct Taking<'a, F> {
 // What is prepared before the threads start, besides the tapes.
 #[derive(Drop)]
 struct Prepared<'a, S, F> {
+    names: Vec<PeerName>,
     feeding: Feeding<S>,
+    // What the feeders have of these two is used after them, too.
+    tally: Arc<SpoolTally>,
+    suspects: Arc<Suspects>,
     taking: Taking<'a, F>,
     synced: SyncedBuffers,
 }
@@ -339,6 +342,7 @@ fn prepare<
     taking: Taking<'a, F>,
     drops_missing: bool,
 ) -> Result<Prepared<'a, S, F>, RunError> {
+    let names = names_of(env.files.alloc(), confs)?;
     let suspects = suspects_of(env.rt, env.files, backlogs.path, confs)?;
     let (is_lasting, start) = (taking.stop.is_some(), taking.start);
     let feeding = feeding_of(
@@ -355,6 +359,9 @@ fn prepare<
     log_strangers(env.rt, env.files, &places.directory, confs, others);
     log_unknown_lines(env.rt, env.files, backlogs.path);
     Ok(Prepared {
+        names,
+        tally: Arc::try_clone(&feeding.tally)?,
+        suspects: Arc::try_clone(&feeding.suspects)?,
         feeding,
         taking,
         synced,
@@ -461,7 +468,6 @@ fn taking_of<'a, R: Clock + Log, F: AllocGlobal + Files<File = File>, H, C, L>(
         None => None,
     };
     Ok(Taking {
-        names: names_of(alloc, peers)?,
         funnel,
         keeper,
         room,
@@ -533,26 +539,18 @@ fn work<
         alloc, stations, intake, blanks,
     )?;
     let Prepared {
+        names,
         feeding,
+        tally,
+        suspects,
         taking,
         synced,
     } = prepared;
-    let tally = Arc::try_clone(&feeding.tally)?;
-    let suspects = Arc::try_clone(&feeding.suspects)?;
     let feeders = feeders_of(env, feeding, (one, other))?;
     let named = NamedBuffers::new(alloc);
+    let flusher = Flusher::with_articles(third, SpoolSync::new(synced, &named));
     run_workers(
-        env,
-        backlogs,
-        &post,
-        feeders,
-        Flusher::with_articles(third, SpoolSync::new(synced, &named)),
-        taking,
-        share,
-        &tally,
-        &suspects,
-        out,
-        end,
+        env, backlogs, post, &names, feeders, flusher, taking, share, &tally, &suspects, out, end,
     );
     Ok(())
 }
@@ -571,7 +569,8 @@ fn run_workers<
 >(
     env: &RunEnv<'_, R, F, H, C, L>,
     backlogs: Backlogs<'_>,
-    post: &Post<FileDisk<TapeFile>, N>,
+    post: Post<FileDisk<TapeFile>, N>,
+    names: &[PeerName],
     feeders: Feeders<S, C, N>,
     flusher: Flusher<N, SpoolSync<'_>>,
     taking: Taking<'_, F>,
@@ -581,15 +580,54 @@ fn run_workers<
     out: &mut W,
     end: &mut FeedEnd,
 ) {
-    let alloc = env.files.alloc();
     // The resolver lives as long as the feeders run.
     let Feeders {
         resolver: _resolver,
         both: (first, second),
         wakers,
     } = feeders;
+    let countdown = Countdown::new(2);
+    let buffers = flusher.articles.named();
+    let mut intake = intake_of(
+        env, backlogs, taking, share, names, wakers, buffers, &countdown, out,
+    );
+    let feeders = (counted(first, &countdown), counted(second, &countdown));
+    let signals = Signals::new();
+    let ended = run_threads(
+        env.rt,
+        &post,
+        &signals,
+        feeders,
+        flusher,
+        &mut intake,
+        &Free,
+    );
+    keep_all(env.rt, env.files, backlogs.path, suspects);
+    let (left, share, intake_end) = left_by(intake);
+    let ended = ended_workers(names, ended, share, intake_end, end);
+    tally.log(env.rt, names);
+    close_run(env, post, names, ended, left, end);
+}
+
+// A worker that counts down there once it has ended.
+fn counted<W>(worker: W, countdown: &Countdown) -> CountedWorker<'_, W> {
+    CountedWorker { worker, countdown }
+}
+
+// The intake, with this share.
+fn intake_of<'a, R, F: AllocGlobal + Files<File = File>, H, C, L, W, N: Naming>(
+    env: &RunEnv<'a, R, F, H, C, L>,
+    backlogs: Backlogs<'a>,
+    taking: Taking<'a, F>,
+    share: IntakeShare<N>,
+    names: &'a [PeerName],
+    wakers: (Arc<Waker>, Arc<Waker>),
+    buffers: Option<&'a NamedBuffers>,
+    countdown: &'a Countdown,
+    out: &'a mut W,
+) -> IntakeWorker<'a, F, W, N> {
+    let alloc = env.files.alloc();
     let Taking {
-        names,
         funnel,
         keeper,
         room,
@@ -598,14 +636,13 @@ fn run_workers<
         start,
         acknowledged,
     } = taking;
-    let countdown = Countdown::new(2);
-    let mut intake = IntakeWorker {
+    IntakeWorker {
         alloc,
         share,
         funnel,
         out,
         wakers,
-        names: &names,
+        names,
         status: StatusFile::new(env.files, status, start),
         progress: Progress::new(alloc, start, stop.is_some()),
         nowhere: Nowhere::new(alloc),
@@ -614,60 +651,16 @@ fn run_workers<
         tapes: backlogs.tapes,
         directory: backlogs.path,
         room,
-        buffers: flusher.articles.named(),
+        buffers,
         acknowledged,
         unprinted: None,
         printed: None,
         nowhere_logged: start,
-        countdown: &countdown,
+        countdown,
         stop,
         has_no_status: false,
         end: FeedEnd::well(alloc),
-    };
-    let first = CountedWorker {
-        worker: first,
-        countdown: &countdown,
-    };
-    let second = CountedWorker {
-        worker: second,
-        countdown: &countdown,
-    };
-    let signals = Signals::new();
-    let feeders = (first, second);
-    let ended = run_threads(env.rt, post, &signals, feeders, flusher, &mut intake, &Free);
-    keep_all(env.rt, env.files, backlogs.path, suspects);
-    let IntakeWorker {
-        status,
-        stop,
-        has_no_status,
-        acknowledged,
-        end: intake_end,
-        ..
-    } = intake;
-    let mut articles = match ended {
-        Ok((first, second, flusher)) => {
-            let (first, second) = (first.worker, second.worker);
-            let faults = (flusher.fault, first.fault, second.fault);
-            add_faults(alloc, &names, faults, intake_end, end);
-            add_unread(first.unread, second.unread, end);
-            Some(flusher.articles)
-        }
-        Err(NoThread) => {
-            RunError::OutOfResources.add_to(end);
-            None
-        }
-    };
-    tally.log(env.rt, &names);
-    let status = (status, has_no_status);
-    close(env.rt, post, &names, status, articles.as_mut(), end);
-    if let Some(articles) = articles {
-        articles.report(env.rt, end);
     }
-    let is_asked = stop.as_ref().is_some_and(|stop| stop.was_seen());
-    if is_asked && end.tapes.is_empty() && !end.lacks_resources {
-        log_end(env.rt, env.version, acknowledged.number());
-    }
-    remove_stop(env.rt, stop, end);
 }
 
 // The two feeders, with these shares.
@@ -740,45 +733,4 @@ fn waker_of<R: Wait + Log, S: SpoolDirectory + Drop, C: Net + Drop, N: Naming>(
 // The system refused a poll or a waker, for this reason.
 fn lacking<R: Log>(rt: &R, error: &io::Error) -> RunError {
     RunError::refused(rt, "poll sockets", error)
-}
-
-// Adds what went wrong at work: the flusher's fault first, since the others meet the same fault after it.
-fn add_faults(
-    alloc: Global,
-    names: &[PeerName],
-    faults: (Option<PostFault>, Option<FeederFault>, Option<FeederFault>),
-    intake: FeedEnd,
-    end: &mut FeedEnd,
-) {
-    if let Some(fault) = faults.0 {
-        RunError::post(alloc, names, fault).add_to(end);
-    }
-    add_all(intake, end);
-    if let Some(fault) = faults.1 {
-        feeder_error(alloc, names, fault).add_to(end);
-    }
-    if let Some(fault) = faults.2 {
-        feeder_error(alloc, names, fault).add_to(end);
-    }
-}
-
-// The fault with which a feeder ended.
-fn feeder_error(alloc: Global, names: &[PeerName], fault: FeederFault) -> RunError {
-    match fault {
-        FeederFault::Post(fault) => RunError::post(alloc, names, fault),
-        FeederFault::NoPeer | FeederFault::System => RunError::OutOfResources,
-    }
-}
-
-// Adds the files that the feeders could not read, each once.
-fn add_unread(first: UnreadPaths, second: UnreadPaths, end: &mut FeedEnd) {
-    let first = first.into_paths();
-    for path in second.into_paths() {
-        if !first.contains(&path) {
-            RunError::File(FileError::Unread(path)).add_to(end);
-        }
-    }
-    for path in first {
-        RunError::File(FileError::Unread(path)).add_to(end);
-    }
 }

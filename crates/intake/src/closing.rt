@@ -1,10 +1,11 @@
-// The end of a run: what still pends is flushed, the status file is written, and what is owed is added up.
+// The end of a run: what still pends is flushed, the status file is written, what is owed is added up, and the post is
+// closed.
 use crate::run_error::RunError;
 use crate::status_file::StatusFile;
 use crate::stop_file::StopFile;
 use disk_model::Disk;
 use feed_ends::{FeedEnd, Owing, TapeError};
-use flusher::{ArticleSync, Free, Naming, Post, PostFault};
+use flusher::{ArticleSync, FeederShare, Free, IntakeShare, Naming, Post, PostFault};
 use funnel::PeerName;
 use log::{Log, warn};
 use std::alloc::AllocError;
@@ -13,33 +14,61 @@ use std::rt::{Clock, Files};
 use std::str;
 use std::sync::Wait;
 
-/// Flushes what is still pending, writes the status file, and adds what is still owed. `is_reported` is whether it was
-/// reported before that the status file cannot be written. After a fault of a tape only the other tapes are flushed,
-/// and nothing is acknowledged; what the tape's peer is owed is not known, and not reported. Further tapes that failed
-/// are logged. Without `articles` nothing is acknowledged, either.
+/// What the workers of a run have counted, once all have ended.
+#[derive(Drop)]
+pub struct WorkerShares<N: Naming> {
+    pub intake: IntakeShare<N>,
+    /// The first feeder's share.
+    pub first: FeederShare<N>,
+    /// The second feeder's share.
+    pub second: FeederShare<N>,
+    pub flusher: FeederShare<N>,
+}
+
+/// Flushes what is still pending, writes the status file, adds what is still owed, and closes the post with the shares
+/// of all workers. `is_reported` is whether it was reported before that the status file cannot be written. After a
+/// fault of a tape only the other tapes are flushed, nothing is acknowledged, and the post is not closed; what the
+/// tape's peer is owed is not known, and not reported. Further tapes that failed are logged. Without `articles` nothing
+/// is acknowledged, either, and without `shares` the post is not closed.
 pub fn close<
-    D: Disk,
+    D: Disk + Drop,
     N: Naming,
     A: ArticleSync,
     R: Wait + Clock + Log,
     F: AllocGlobal + Files<File = File>,
 >(
     rt: &R,
-    post: &Post<D, N>,
+    post: Post<D, N>,
+    shares: Option<WorkerShares<N>>,
     names: &[PeerName],
     (status, is_reported): (StatusFile<'_, F>, bool),
     articles: Option<&mut A>,
     end: &mut FeedEnd,
 ) {
     let mut status = status;
-    if let Err(fault) = flush(rt, post, articles, end.tapes.is_empty()) {
+    if let Err(fault) = flush(rt, &post, articles, end.tapes.is_empty()) {
         RunError::post(*end.tapes.allocator(), names, fault).add_to(end);
     }
-    if let Err(error) = status.write(rt, post, names)
+    if let Err(error) = status.write(rt, &post, names)
         && !is_reported
     {
         error.add_to(end);
     }
+    add_owed(rt, &post, names, end);
+    if let Some(shares) = shares
+        && end.tapes.is_empty()
+    {
+        end_post(rt, post, shares, names, end);
+    }
+}
+
+// Adds what each peer is still owed. Logs each further tape that failed.
+fn add_owed<D: Disk, N: Naming, R: Wait + Log>(
+    rt: &R,
+    post: &Post<D, N>,
+    names: &[PeerName],
+    end: &mut FeedEnd,
+) {
     for (peer, name) in names.iter().enumerate() {
         if peer < post.peers() {
             let reported = post.reported(rt, peer);
@@ -49,6 +78,25 @@ pub fn close<
                 end.lacks_resources = true;
             }
         }
+    }
+}
+
+// Closes the post, whose peers have these names. Adds to `end` if it cannot be closed.
+fn end_post<D: Disk + Drop, N: Naming, R: Wait>(
+    rt: &R,
+    post: Post<D, N>,
+    shares: WorkerShares<N>,
+    names: &[PeerName],
+    end: &mut FeedEnd,
+) {
+    let WorkerShares {
+        intake,
+        first,
+        second,
+        flusher,
+    } = shares;
+    if let Err(fault) = post.end(rt, intake, first, second, flusher) {
+        RunError::post(*end.tapes.allocator(), names, fault).add_to(end);
     }
 }
 

@@ -32,7 +32,7 @@ mod unknown_lines;
 mod unprinted;
 
 pub use backlogs::{OtherFiles, flush_stations, take_backlogs};
-pub use closing::{close, remove_stop};
+pub use closing::{WorkerShares, close, remove_stop};
 pub use countdown::{Countdown, CountedWorker};
 pub use intake_worker::IntakeWorker;
 pub use keeping::{LineKeeper, keeper_for};
