@@ -12,7 +12,7 @@ use crate::suspects::{keep_all, suspects_of};
 use crate::targets::{by_name, hosts_of, targets_of};
 use acknowledged_lines::Acknowledged;
 use article_store::SpoolDirectory;
-use connections::{Outages, PeerTarget, Spool, SpoolTally, Suspects, UnreadPaths};
+use connections::{Outages, PeerTarget, Spool, SpoolTally, Suspects};
 use disk_model::{FileDisk, TapeDirectory, TapeFile};
 use feed_conf::{Conf, PeerConf};
 use feed_ends::{FeedEnd, FileError, Source};
