@@ -114,10 +114,10 @@ IsRotateAllFault peers (Intake fault) = (fault ≡ Disk) ⊎ (fault ≡ Broken)
 IsRotateAllFault peers fault = ⊥
 
 -- the faults that `end` returns, at a post of `peers` peers
-abbrev pub IsEndFault : ℕ → PostFault → Type 0
-IsEndFault peers (Stranger at) = at < peers
-IsEndFault peers NoMemory = Unit {0}
-IsEndFault peers fault = ⊥
+abbrev pub IsPostEndFault : ℕ → PostFault → Type 0
+IsPostEndFault peers (Stranger at) = at < peers
+IsPostEndFault peers NoMemory = Unit {0}
+IsPostEndFault peers fault = ⊥
 
 -- a tape failed, now or before, or has no room: the tape of a station, or the intake's
 abbrev pub IsOfTape : PostFault → Type 0

@@ -3,7 +3,7 @@ ghost use Rattle.std.specs.Prelude.{◌≡◌, ◌+◌, ◌≤◌, [], length};
 ghost use Rattle.std.specs.Prelude.{IfErr, IfOk, OnOk};
 ghost use Rattle.std.specs.Vec.{vec_capacity};
 ghost use Rattle.flusher.specs.Closed.{HandsBack, IsClosed};
-ghost use Rattle.flusher.specs.Faults.{IsEndFault};
+ghost use Rattle.flusher.specs.Faults.{IsPostEndFault};
 ghost use Rattle.flusher.specs.Names.{IsTableAt};
 ghost use Rattle.note_queue.specs.Folds.{Folds};
 ghost use Rattle.peer_queue.specs.Front.{front_shape};
@@ -236,7 +236,7 @@ impl<D: Disk + Drop, N: Naming> Post<D, N> {
         third: FeederShare<N>,
     ) -> Result<ClosedPost<D>, PostFault>
         ensures closes { IfOk result (IsClosed self intake first second third) }
-        ensures refuses { IfErr result (IsEndFault (length self.names)) }
+        ensures refuses { IfErr result (IsPostEndFault (length self.names)) }
     {
         match self.close(rt, intake, first, second, third) {
             Ok(closed) => Ok(closed),
