@@ -27,7 +27,8 @@ use Rattle.world_core.specs.declared.step.Step.{Step}
 use Rattle.world_core.proofs.PlansStaySound.{under_way_sound}
 use Rattle.world_core.proofs.RelatedLists.{zip_equal}
 use Rattle.world_core.proofs.SoundOverEvents.{all_begun}
-use Rattle.world_core.proofs.WalkOverTapes.{HasSameNotes, HaveSameNotes, frame, moment_same, stopped_same}
+use Rattle.world_core.proofs.WalkOverTapes.{HasSameNotes, HaveSameNotes, SameButDisks, frame, moment_rest, moment_same}
+use Rattle.world_core.proofs.WalkOverTapes.{stopped_rest, stopped_same}
 use Rattle.world_core.proofs.WorldStopped.{tied_none}
 
 -- ---- where a step's events begin, and behind some of them
@@ -75,12 +76,7 @@ lines_same h was now same state keeps = record {
       (with_tape other (record other.tape { history = history }))) (sym is.1) has) was.peers now.peers keeps.lines same;
 }
 
--- nothing else than the disks has changed, or the numbers that were kept are gone
-record SameButDisks (was now : Past) : Type 0 where
-  notes : HaveSameNotes was now
-  intake : now.intake.history ≡ was.intake.history
-  last : now.last ≡ was.last
-
+-- nothing else than the disks has changed, and the numbers that were kept are gone
 sound_same : (was now : Past) → SameButDisks was now → now.begun ≡ None → IsSound was → IsSound now
 sound_same was now same none sound =
     let mark : mark_at now.intake ≡ mark_at was.intake =
@@ -128,14 +124,6 @@ moment_safe was now _ (At_intake way log on) safe = record {
   intake = on_way (HasLedger (KeepsLines was.intake.history was.peers)) was.intake.log now.intake.log way log on;
 }
 
-moment_rest : (was now past : Past) → IsMomentOf was now past → SameButDisks was past
-moment_rest was now past moment = by past moment (moment_same was now past moment)
-  where
-    by : (past : Past) → IsMomentOf was now past → HaveSameNotes was past → SameButDisks was past
-    by _ Before same = record { notes = same; intake = refl; last = refl }
-    by _ (At_peer rank old new way log here there on) same = record { notes = same; intake = refl; last = refl }
-    by _ (At_intake way log on) same = record { notes = same; intake = refl; last = refl }
-
 -- all tapes of a world at a moment are safe, and sound but for what was kept
 record IsGood (past : Past) : Type 0 where
   safe : IsSafe past
@@ -177,13 +165,12 @@ stopped_safe was now stopped safe = record {
       safe.intake));
 }
 
-stopped_rest : (was mid now : Past) → SameButDisks was mid → AreStopped mid now → SameButDisks was now
-stopped_rest was mid now same stopped = record {
+rest_then : (was mid now : Past) → SameButDisks was mid → SameButDisks mid now → SameButDisks was now
+rest_then was mid now one other = record {
   notes = zip_then HasSameNotes HasSameNotes HasSameNotes
-      (λ one other last is more. (more.0 ∙ is.0, more.1 ∙ is.1)) was.peers mid.peers now.peers same.notes
-      (stopped_same mid now stopped);
-  intake = ap (λ (t : TapePast). t.history) stopped.intake.all ∙ same.intake;
-  last = ap (λ (p : Past). p.last) stopped.all ∙ same.last;
+      (λ first second last is more. (more.0 ∙ is.0, more.1 ∙ is.1)) was.peers mid.peers now.peers one.notes other.notes;
+  intake = other.intake ∙ one.intake;
+  last = other.last ∙ one.last;
 }
 
 -- no connection holds anything
@@ -203,7 +190,8 @@ pub crash_good : (life : Life) (cut : List Step) (later : Life) → Crashes life
     → IsSoundLife life → IsSafe later.past × IsSoundLife later
 crash_good life cut later crash safe sound =
     let good = moment_good life cut crash.under_way crash.moment safe sound.past in
-    let past = sound_same good.was crash.past (stopped_rest good.was crash.under_way crash.past good.same crash.stopped)
+    let past = sound_same good.was crash.past (rest_then good.was crash.under_way crash.past good.same
+    (stopped_rest crash.under_way crash.past crash.stopped))
     (ap (λ (p : Past). p.begun) crash.stopped.all) good.sound in
     subst (λ (l : Life). IsSafe l.past × IsSoundLife l) (sym crash.changed) (
       stopped_safe crash.under_way crash.past crash.stopped good.safe,

@@ -39,7 +39,7 @@ use Rattle.world_core.proofs.PairGoesOn.{went_unticked}
 use Rattle.world_core.proofs.Moments.{log_of, not_none, seen_log}
 use Rattle.world_core.proofs.PeerInWorld.{get_apart}
 use Rattle.world_core.proofs.MarksAndNotes.{map_set}
-use Rattle.world_core.proofs.WalkOverTapes.{frame}
+use Rattle.world_core.proofs.WalkOverTapes.{ends_tapes, frame}
 
 -- ---- lists
 
@@ -335,7 +335,7 @@ module _ (step : Step) (life : Life) where
 
     at_taken : (outputs : List View) (later : Past) → TakesPlan step life.past outputs later → AtEvents later
     at_taken outputs later t =
-        let same = (frame step life.past t.plan t.is_plan).ends t.mid in
+        let same = ends_tapes step t.mid _ ((frame step life.past t.plan t.is_plan).ends t.mid) in
         at_same t.mid later (ap logs t.later_is
         ∙ (ap (λ (ps : List PeerPast). (peer_logs ps, (t.plan.ends t.mid).intake.log)) same.0
         ∙ ap (λ (tape : TapePast). (peer_logs t.mid.peers, tape.log)) same.1))

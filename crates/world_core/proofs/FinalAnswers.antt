@@ -31,10 +31,10 @@ use Rattle.peer_queue.specs.declared.limits.Owed.TheVariants.{Already, New}
 use Rattle.peer_queue.specs.declared.settled.Settled.{Settled}
 use Rattle.peer_queue.specs.declared.settled.Settled.TheVariants.{Answered, Dropped, Later, Ready}
 use Rattle.recovery.specs.Notes.{History, ledger_after}
-use Rattle.sections.specs.ListLaws.{contains_first, contains_more, zip_get}
+use Rattle.sections.specs.ListLaws.{at_all, contains_first, contains_more, zip_get}
 use Rattle.sections.specs.Tapes.{StaysAcknowledged, TapePast}
-use Rattle.world_core.specs.Past.{ConnPast, Life, Past, PeerPast, conn_at, limits_of, options_of, with_peer}
-use Rattle.world_core.specs.Past.{with_tape}
+use Rattle.world_core.specs.Past.{ConnPast, Life, Past, PeerPast, conn_at, limits_of, options_of, with_intake}
+use Rattle.world_core.specs.Past.{with_last, with_peer, with_tape}
 use Rattle.world_core.specs.Events.{Acknowledges, Claims, Closes, Does, Event, Imports, IsCandidate, Opens}
 use Rattle.world_core.specs.Events.{OpensIntake, Owes, Parts, Returns, Rotates, Sees, Settles, Sheds, Spills, closing}
 use Rattle.world_core.specs.Events.{import_key, imported_as, opened_peer, owed_as, owing_as, parted, settled}
@@ -47,6 +47,7 @@ use Rattle.world_core.specs.DropLaws.{AllAreAccountedFor, HasOutcome, HasOwe, Ha
 use Rattle.world_core.specs.Keeping.{PeerStays, PeersStay}
 use Rattle.world_core.specs.Laws.{AllFinalsAreRight, CameTo, Comes, HasVerdict, Passes, WasAccepted, WasTaken}
 use Rattle.world_core.specs.Laws.Comes.{No_step, Step_taken, Step_refused, Crashed}
+use Rattle.world_core.specs.Steps.{must_run}
 use Rattle.world_core.specs.Runs.{RefusesStep, Takes}
 use Rattle.world_core.specs.Safe.{IsSafe}
 use Rattle.world_core.specs.Sound.{IsSoundConn, IsSoundLife}
@@ -66,7 +67,8 @@ use Rattle.world_core.proofs.PeerInWorld.{get_apart, get_set}
 use Rattle.world_core.proofs.MarksAndNotes.{last_all, prefix_all}
 use Rattle.world_core.proofs.RecoveredNotes.{comes_safe, comes_sound}
 use Rattle.world_core.proofs.WalkOverSteps.{Passage, refuses_make, takes_make}
-use Rattle.world_core.proofs.WalkOverTapes.{HasSameNotes, HaveSameNotes, Keeper, OnTape, crash_keeps}
+use Rattle.world_core.proofs.WalkOverTapes.{HasSameNotes, HaveSameNotes, Keeper, KeepsEnds, OnPlans, OnTape}
+use Rattle.world_core.proofs.WalkOverTapes.{SameButDisks, any_ends, crash_keeps, on_any, plans_on}
 
 -- an element of a list, if a property holds of all of them
 all_contained : {A : Type 0} (P : A → Type 0) (xs : List A) (x : A) → AllByRecursion P xs → Contains xs x → P x
@@ -430,11 +432,11 @@ module _ (V : Says) where
   abbrev rightly : ClaimsShed → Keeper
   rightly shed = record {
     ON = OffConns;
-    on_tape = off_conns;
     KEEPS = AllRightSince;
-    alike = none_put;
+    alike = λ past. none_put past past refl;
     joined = λ was mid now one other. all_then was.peers mid.peers now.peers one other;
     at_same = at_same;
+    at_intake = λ was tape same. none_put was (with_intake was tape) refl;
     event_does = right_does shed;
     keeps_begun = λ past. begun_right past.peers;
   }
@@ -618,6 +620,16 @@ never_right V was now all =
 abbrev on_tapes : Keeper
 on_tapes = rightly IsShed (λ rank number. refl)
 
+on_step : (step : Step) (life : Life) → OnPlans on_tapes step life
+on_step step life runs =
+    plans_on on_tapes step life.past (on_any on_tapes (off_conns IsShed) (λ rank. tt) tt (must_run step))
+
+ends_step : (step : Step) → KeepsEnds on_tapes step
+ends_step = any_ends on_tapes (λ was number. none_put IsShed was (with_last was number) refl)
+
+same_step : (was now : Past) → SameButDisks was now → on_tapes.KEEPS was now
+same_step was now same = same_right IsShed was now same.notes
+
 -- if the step hands a debt over, the peer owed it
 abbrev HandsOwed : Owned → Step → Life → Type 0
 HandsOwed O step life = (rank id : ℕ) (debt : Owing) (conn : ConnPast) (peer : PeerPast) → step ≡ Hand id
@@ -770,9 +782,7 @@ module _ (O : Owned) where
   abbrev passage_right : Passage
   passage_right = record {
     tapes = on_tapes;
-    on_opens = λ rank. tt;
-    on_intake = tt;
-    keeps_same = same_right IsShed;
+    keeps_same = same_step;
     MAKES = MakesRight;
     changes = changes_right;
     halts = halts_right;
@@ -1029,12 +1039,15 @@ module _ (law : VerdictsAreRight) (own : EndsAreOwn) where
 
     next_right : IsNext some life more later → AllOwned OwnedNow life.conns → Rights OwnedNow life later
     next_right (inl (step, outputs, next, is, takes)) owned =
-        takes_make (passage_right OwnedNow) step life outputs later takes (owes_now step next) owned
+        takes_make (passage_right OwnedNow) step life outputs later (on_step step life) (ends_step step) takes
+        (owes_now step next) owned
     next_right (inr (inl (step, fault, next, is, refuses))) owned =
-        refuses_make (passage_right OwnedNow) step life fault later refuses (owes_now step next) owned
+        refuses_make (passage_right OwnedNow) step life fault later (on_step step life) refuses (owes_now step next)
+        owned
     next_right (inr (inr (is, crash))) owned = record {
       right = never_right (HasCome later) life.past later.past
-          (crash_keeps on_tapes (λ rank. tt) tt (same_right IsShed) life some later crash);
+          (crash_keeps on_tapes same_step life some later
+          (at_all (λ (step : Step). OnPlans on_tapes step life) some (λ i step here. on_step step life)) crash);
       owned = subst (λ (l : Life). AllOwned OwnedNow l.conns) (sym crash.changed) (none_owned OwnedNow);
     }
 

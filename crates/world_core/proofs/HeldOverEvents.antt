@@ -9,7 +9,7 @@ use Rattle.peer_queue.specs.declared.limits.Owed.{Owed}
 use Rattle.peer_queue.specs.declared.limits.Owed.TheVariants.{New, Already}
 use Rattle.sections.specs.ListLaws.{zip_put, zip_same, zip_then}
 use Rattle.sections.specs.Tapes.{TapePast}
-use Rattle.world_core.specs.Past.{Past, PeerPast, with_peer, with_tape}
+use Rattle.world_core.specs.Past.{Past, PeerPast, with_intake, with_peer, with_tape}
 use Rattle.world_core.specs.Events.{Acknowledges, Claims, Closes, Does, Event, Imports, Opens, OpensIntake, Owes, Parts}
 use Rattle.world_core.specs.Events.{Returns, Rotates, Sees, Settles, Sheds, Spills, closing, import_key, imported_as}
 use Rattle.world_core.specs.Events.{owed_as, owing_as, parted}
@@ -170,11 +170,11 @@ holds_begin past =
 abbrev pub steady : Keeper
 steady = record {
   ON = OnTape;
-  on_tape = λ event on. on;
   KEEPS = AllHold;
-  alike = none_put;
+  alike = λ past. none_put past past refl;
   joined = hold_joined;
   at_same = tape_put;
+  at_intake = λ was tape same. none_put was (with_intake was tape) refl;
   event_does = holds_does;
   keeps_begun = holds_begin;
 }

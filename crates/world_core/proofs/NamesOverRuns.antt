@@ -29,11 +29,11 @@ SameNames was now = names_of now.peers ≡ names_of was.peers
 abbrev naming : Keeper
 naming = record {
   ON = λ event. Unit {0};
-  on_tape = λ event on. tt;
   KEEPS = SameNames;
-  alike = λ was now same. ap names_of same;
+  alike = λ past. refl;
   joined = λ was mid now one other. other ∙ one;
   at_same = λ was now rank peer tape here is same. names_put was now rank peer (with_tape peer tape) here refl is;
+  at_intake = λ was tape same. refl;
   event_does = λ event on. names_does event;
   keeps_begun = λ past. names_begun past.peers;
 }
@@ -46,9 +46,9 @@ names_same was now same =
 pub names_runs : (begun later : Life) (steps : List Step) (lines : List (List View)) → Runs begun steps lines later
     → named later ≡ named begun
 names_runs begun later steps lines runs =
-    runs_all naming (λ event. tt) names_same
+    runs_all naming (λ was now same. names_same was now same.notes)
     (λ past rank id was now here keeps. names_put past (with_peer past rank now) rank was now here keeps.conf refl)
-    begun steps lines later runs
+    (λ event. tt) (λ was number. refl) begun steps lines later runs
 
 -- ---- what stands for the peers has their names
 

@@ -7,7 +7,7 @@ use Rattle.std.specs.List.{AllByRecursion, AllZip, slice_get}
 use Rattle.recovery.specs.declared.fault.TapeFault.TheVariants.{Disk}
 use Rattle.sections.specs.ListLaws.{zip_weaker}
 use Rattle.sections.specs.Tapes.{TapePast}
-use Rattle.world_core.specs.Past.{Armed, ConnPast, Life, Past, PeerPast, options_of, rank_of, with_past}
+use Rattle.world_core.specs.Past.{Armed, ConnPast, Life, Past, PeerPast, options_of, rank_of, with_last, with_past}
 use Rattle.ledger_core.specs.declared.note.Note.{Note}
 use Rattle.ledger_core.specs.declared.note.Note.TheVariants.{Owe}
 use Rattle.world_core.specs.Tapes.{RefusesClose, RefusesOwe}
@@ -36,10 +36,10 @@ use Rattle.world_core.specs.declared.world.Stage.{Stage}
 use Rattle.world_core.specs.declared.world.Stage.TheVariants.{Running}
 use Rattle.world_core.specs.declared.world.World.{World}
 use Rattle.world_core.proofs.EventLists.{did_none}
-use Rattle.world_core.proofs.HeldOverEvents.{AllHold, HoldsSame, steady}
+use Rattle.world_core.proofs.HeldOverEvents.{AllHold, HoldsSame, none_put, steady}
 use Rattle.world_core.proofs.ImportEvents.{all_import}
 use Rattle.world_core.proofs.TapeSteps.{FailsOnlyAt, fails_there, note_not, seal_only, took_by}
-use Rattle.world_core.proofs.WalkOverTapes.{OnStep, OnTape, refuses_keep, takes_keep}
+use Rattle.world_core.proofs.WalkOverTapes.{OnStep, OnTape, any_ends, plans_on, refuses_keep, takes_keep}
 
 -- ---- what connections hold stays
 
@@ -277,12 +277,14 @@ module _ (old new : World) (life : Life) (stations now : Stations StopDisk _) (c
         took_does step life (with_past life t.later) outputs new
         (does (map view_of outputs) (with_past life t.later) (started, (t.later, t.takes, sym runs)))
         (later_stands t.later t.stands
-        (takes_keep steady step on_step life.past t.later (map view_of outputs) t.takes))
+        (takes_keep steady step life.past t.later (plans_on steady step life.past on_step)
+        (any_ends steady (λ was number. none_put was (with_last was number) refl) step) (map view_of outputs) t.takes))
 
     refused_stands : (fault : Fault) (t : TookNot step life.past fault now)
         → WorldStands new (with_past life t.later)
     refused_stands fault t =
-        later_stands t.later t.stands (refuses_keep steady step on_step life.past t.later fault t.refuses)
+        later_stands t.later t.stands (refuses_keep steady step life.past t.later
+        (plans_on steady step life.past on_step) fault t.refuses)
 
     pub took_not : (fault : Fault)
         → ((later : Life) → RefusesTapes step life fault later → Refuses step life fault later)

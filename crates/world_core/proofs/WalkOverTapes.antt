@@ -1,14 +1,14 @@
 -- One walk over events and steps on tapes: what events of some kind keep of all tapes, and what each refused event
 -- keeps, is also kept by the steps made of them, taken or refused, and by a stop that is met in one.
 use Rattle.std.proofs.Common.{◌≡◌, ◌⊎◌, ◌+◌, ℕ, zero, suc, Bool, true, false, Some, List, []}
-use Rattle.std.proofs.Common.{◌∷◌, length, refl, sym, ap, ◌∙◌, subst, inl, inr}
+use Rattle.std.proofs.Common.{◌∷◌, length, take, refl, sym, ap, subst, inl, inr}
 use Rattle.std.specs.Prelude.{if◌then◌else◌}
 use Rattle.std.specs.Global.{Vec}
 use Rattle.std.specs.List.{AllByRecursion, AllZip, slice_get}
 use Rattle.sections.specs.ListLaws.{all_weaker, both_all, zip_put, zip_same, zip_weaker}
 use Rattle.sections.specs.Tapes.{TapePast}
-use Rattle.world_core.specs.Past.{Armed, Life, Past, PeerPast, with_intake, with_peer, with_tape}
-use Rattle.world_core.specs.Safe.{KeepsNotes}
+use Rattle.world_core.specs.Past.{Armed, Life, Past, PeerPast, with_intake, with_last, with_peer, with_tape}
+use Rattle.world_core.specs.Safe.{KeepsLines, KeepsNotes}
 use Rattle.world_core.specs.Events.{Acknowledges, AllDo, Claims, Closes, Does, Event, Fails, Imports, Opens}
 use Rattle.world_core.specs.Events.{OpensIntake, Owes, Parts, Refuses, Returns, Rotates, Sees, Settles, Sheds, Spills}
 use Rattle.world_core.specs.Events.{each_rank}
@@ -44,9 +44,14 @@ pub record HasOtherTape (was now : Past) : Type 0 where
   pub changed : now ≡ with_peer was rank (with_tape peer tape)
   pub same : tape.history ≡ peer.tape.history
 
--- the same, or the peers are as they were
+-- the intake has another tape, which has the same notes
+pub record HasOtherIntake (was now : Past) : Type 0 where
+  pub tape : TapePast
+  pub changed : now ≡ with_intake was tape
+  pub same : tape.history ≡ was.intake.history
+
 abbrev pub KeepsHistories : Past → Past → Type 0
-KeepsHistories was now = (now.peers ≡ was.peers) ⊎ HasOtherTape was now
+KeepsHistories was now = HasOtherIntake was now ⊎ HasOtherTape was now
 
 other_tape : (was now : Past) (rank : ℕ) (peer : PeerPast) (tape : TapePast)
     → slice_get was.peers rank ≡ Some peer → now ≡ with_peer was rank (with_tape peer tape)
@@ -57,8 +62,9 @@ other_tape was now rank peer tape here changed same =
 history_of : (one other : TapePast) → one ≡ other → one.history ≡ other.history
 history_of one other same = ap (λ (t : TapePast). t.history) same
 
-peers_of : (was now : Past) (tape : TapePast) → now ≡ with_intake was tape → KeepsHistories was now
-peers_of was now tape changed = inl (ap (λ (p : Past). p.peers) changed)
+other_intake : (was now : Past) (tape : TapePast) → now ≡ with_intake was tape → tape.history ≡ was.intake.history
+    → KeepsHistories was now
+other_intake was now tape changed same = inl (record { tape = tape; changed = changed; same = same })
 
 refused_so : (event : Event) (was now : Past) (fault : Fault) → Refuses event was fault now → KeepsHistories was now
 refused_so (Owes rank token id) was now fault r =
@@ -84,11 +90,14 @@ refused_so (Returns rank id number) was now fault r =
     other_tape was now rank r.peer r.tape r.here r.changed (history_of _ _ r.refused.1)
 refused_so (Settles rank id moment outcome) was now fault r =
     other_tape was now rank r.peer r.tape r.here r.changed (history_of _ _ r.refused.1)
-refused_so (Sees number) was now fault r = peers_of was now r.tape r.changed
-refused_so Acknowledges was now fault r = peers_of was now r.tape r.changed
+refused_so (Sees number) was now fault r = other_intake was now r.tape r.changed (history_of _ _ r.refused.2)
+refused_so Acknowledges was now fault r =
+    other_intake was now r.tape r.changed
+    (same_history (KeepsLines was.intake.history was.peers) was.intake fault r.tape r.refused)
 refused_so (Opens rank) was now fault r =
     other_tape was now rank r.peer r.tape r.here r.changed (ap (λ (t : TapePast). t.history) r.refused.all)
-refused_so OpensIntake was now fault r = peers_of was now r.tape r.changed
+refused_so OpensIntake was now fault r =
+    other_intake was now r.tape r.changed (ap (λ (t : TapePast). t.history) r.refused.all)
 
 -- ---- the same notes
 
@@ -103,8 +112,18 @@ left_peer_same : (manner : Manner) (peer : PeerPast) → HasSameNotes peer (left
 left_peer_same AtRest peer = (refl, refl)
 left_peer_same (ByChoice choice) peer = (refl, refl)
 
+-- the notes are the same, those of the intake, too, and so is the last number
+pub record SameButDisks (was now : Past) : Type 0 where
+  pub notes : HaveSameNotes was now
+  pub intake : now.intake.history ≡ was.intake.history
+  pub last : now.last ≡ was.last
+
 pub left_same : (manner : Manner) (past : Past) → HaveSameNotes past (left manner past)
 left_same manner past = zip_made HasSameNotes (left_peer manner) (left_peer_same manner) past.peers
+
+pub left_rest : (manner : Manner) (past : Past) → SameButDisks past (left manner past)
+left_rest AtRest past = record { notes = left_same AtRest past; intake = refl; last = refl }
+left_rest (ByChoice choice) past = record { notes = left_same (ByChoice choice) past; intake = refl; last = refl }
 
 -- at a moment of an event, and after a crash
 pub moment_same : (was now past : Past) → IsMomentOf was now past → HaveSameNotes was past
@@ -120,6 +139,21 @@ stopped_same was now stopped =
       ap (λ (p : PeerPast). p.conf) is.all,
       ap (λ (t : TapePast). t.history) is.tape.all,
     )) was.peers now.peers stopped.peers
+
+pub moment_rest : (was now past : Past) → IsMomentOf was now past → SameButDisks was past
+moment_rest was now past moment = by past moment (moment_same was now past moment)
+  where
+    by : (past : Past) → IsMomentOf was now past → HaveSameNotes was past → SameButDisks was past
+    by _ Before same = record { notes = same; intake = refl; last = refl }
+    by _ (At_peer rank old new way log here there on) same = record { notes = same; intake = refl; last = refl }
+    by _ (At_intake way log on) same = record { notes = same; intake = refl; last = refl }
+
+pub stopped_rest : (was now : Past) → AreStopped was now → SameButDisks was now
+stopped_rest was now stopped = record {
+  notes = stopped_same was now stopped;
+  intake = ap (λ (t : TapePast). t.history) stopped.intake.all;
+  last = ap (λ (p : Past). p.last) stopped.all;
+}
 
 -- ---- the events of steps on tapes
 
@@ -174,34 +208,46 @@ abbrev pub OnStep : Bool → Event → Type 0
 OnStep true event = OnTape event
 OnStep false event = IsOpening event
 
--- A plan begins at the tapes before the step, or once their number is kept; and at the end the step leaves all tapes
--- alone.
+-- What a step makes of the tapes that its last event leaves: a line has its number then, and any other step leaves them
+-- as they are.
+abbrev pub Concludes : Step → Past → Past → Type 0
+Concludes (Line text) was now = (number : ℕ) × (now ≡ with_last was number)
+Concludes step was now = now ≡ was
+
+pub ends_tapes : (step : Step) (was now : Past) → Concludes step was now
+    → (now.peers ≡ was.peers) × (now.intake ≡ was.intake)
+ends_tapes (Line text) was now (number, is) = (ap (λ (p : Past). p.peers) is, ap (λ (p : Past). p.intake) is)
+ends_tapes step was now is = (ap (λ (p : Past). p.peers) is, ap (λ (p : Past). p.intake) is)
+
+-- A plan begins at the tapes before the step, or once their number is kept.
 pub record Frame (step : Step) (past : Past) (plan : Plan) : Type 0 where
   pub begins : (plan.begun ≡ past) ⊎ (plan.begun ≡ begun_at past)
   pub on : AllByRecursion (OnStep (must_run step)) plan.events
-  pub ends : (later : Past) → ((plan.ends later).peers ≡ later.peers) × ((plan.ends later).intake ≡ later.intake)
+  pub ends : (later : Past) → Concludes step later (plan.ends later)
 
 -- a plan that begins at the tapes before the step
 framed : (step : Step) (past : Past) (plan : Plan) (events : List Event) (reports : Past → List View)
-    → plan ≡ planned past events reports → AllByRecursion (OnStep (must_run step)) events → Frame step past plan
-framed step past plan events reports is on =
-    subst (Frame step past) (sym is) (record { begins = inl refl; on = on; ends = λ later. (refl, refl) })
+    → ((later : Past) → Concludes step later later) → plan ≡ planned past events reports
+    → AllByRecursion (OnStep (must_run step)) events → Frame step past plan
+framed step past plan events reports rests is on =
+    subst (Frame step past) (sym is) (record { begins = inl refl; on = on; ends = rests })
 
 -- one that begins once their number is kept
 framed_begun : (step : Step) (past : Past) (plan : Plan) (events : List Event) (reports : Past → List View)
-    → plan ≡ planned (begun_at past) events reports → AllByRecursion (OnStep (must_run step)) events
-    → Frame step past plan
-framed_begun step past plan events reports is on =
-    subst (Frame step past) (sym is) (record { begins = inr refl; on = on; ends = λ later. (refl, refl) })
+    → ((later : Past) → Concludes step later later) → plan ≡ planned (begun_at past) events reports
+    → AllByRecursion (OnStep (must_run step)) events → Frame step past plan
+framed_begun step past plan events reports rests is on =
+    subst (Frame step past) (sym is) (record { begins = inr refl; on = on; ends = rests })
 
 reading_frame : (text : Vec ℕ) (reading : Reading) (past : Past) → Frame (Line text) past (reading_plan reading past)
 reading_frame text (Good token id named) past =
     record {
       begins = inl refl;
       on = owes_all OnTape token id (λ rank. tt) 0 named past.peers;
-      ends = λ later. (refl, refl);
+      ends = λ later. (past.last + 1, refl);
     }
-reading_frame text (NotGood fault) past = record { begins = inl refl; on = tt; ends = λ later. (refl, refl) }
+reading_frame text (NotGood fault) past =
+    record { begins = inl refl; on = tt; ends = λ later. (past.last + 1, refl) }
 
 restart_on : (past : Past) → AllByRecursion IsOpening (restart_events past)
 restart_on past = both_all IsOpening (each_rank Opens (length past.peers)) (OpensIntake ∷ [])
@@ -210,48 +256,59 @@ restart_on past = both_all IsOpening (each_rank Opens (length past.peers)) (Open
 pub frame : (step : Step) (past : Past) (plan : Plan) → IsPlan step past plan → Frame step past plan
 frame (Line text) past plan (fits, (reading, reads, is)) =
     subst (Frame (Line text) past) (sym is) (reading_frame text reading past)
-frame Flush past plan is = framed_begun Flush past plan _ _ is (flush_on past)
-frame Begin past plan is = framed_begun Begin past plan _ _ is tt
-frame (Part name) past plan (rank, here, is) = framed (Part name) past plan _ _ is (tt, tt)
-frame Seal past plan (number, may, is) = framed Seal past plan _ _ is (tt, (tt, tt))
-frame (Shed name) past plan (rank, here, (numbers, is)) = framed (Shed name) past plan _ _ is (tt, tt)
-frame (Rotate name) past plan (rank, here, (generation, is)) = framed (Rotate name) past plan _ _ is (tt, tt)
+frame Flush past plan is = framed_begun Flush past plan _ _ (λ later. refl) is (flush_on past)
+frame Begin past plan is = framed_begun Begin past plan _ _ (λ later. refl) is tt
+frame (Part name) past plan (rank, here, is) = framed (Part name) past plan _ _ (λ later. refl) is (tt, tt)
+frame Seal past plan (number, may, is) = framed Seal past plan _ _ (λ later. refl) is (tt, (tt, tt))
+frame (Shed name) past plan (rank, here, (numbers, is)) =
+    framed (Shed name) past plan _ _ (λ later. refl) is (tt, tt)
+frame (Rotate name) past plan (rank, here, (generation, is)) =
+    framed (Rotate name) past plan _ _ (λ later. refl) is (tt, tt)
 frame (Import name text) past plan (events, its, is) =
-    framed (Import name text) past plan _ _ is (import_on name text.items past events its)
-frame Restart past plan is = framed Restart past plan _ _ is (restart_on past)
+    framed (Import name text) past plan _ _ (λ later. refl) is (import_on name text.items past events its)
+frame Restart past plan is = framed Restart past plan _ _ (λ later. refl) is (restart_on past)
 frame step past plan none = absurd none
 
 -- ---- what is kept
 
--- A relation between all tapes before and after: it is kept by events of some kind, those of steps on tapes among them,
--- by whatever leaves the peers alone, and by putting another tape with the same notes in place of a peer's.
+-- A relation between all tapes before and after: it is kept by events of some kind, and by putting another tape with
+-- the same notes in place of a peer's or of the intake's.
 pub record Keeper : Type 1 where
   pub ON : Event → Type 0
-  pub on_tape : (event : Event) → OnTape event → ON event
   pub KEEPS : Past → Past → Type 0
-  pub alike : (was now : Past) → now.peers ≡ was.peers → KEEPS was now
+  pub alike : (past : Past) → KEEPS past past
   pub joined : (was mid now : Past) → KEEPS was mid → KEEPS mid now → KEEPS was now
   pub at_same : (was now : Past) (rank : ℕ) (peer : PeerPast) (tape : TapePast)
       → slice_get was.peers rank ≡ Some peer → now ≡ with_peer was rank (with_tape peer tape)
       → tape.history ≡ peer.tape.history → KEEPS was now
+  pub at_intake : (was : Past) (tape : TapePast) → tape.history ≡ was.intake.history → KEEPS was (with_intake was tape)
   pub event_does : (event : Event) → ON event → (was now : Past) → Does event was now → KEEPS was now
   pub keeps_begun : (past : Past) → KEEPS past (begun_at past)
 
-module _ (keeper : Keeper) where
-  open keeper use {ON, on_tape, KEEPS, alike, joined, at_same, event_does, keeps_begun}
+-- If the step can be taken in this world, all events of its plans are of the keeper's kind.
+abbrev pub OnPlans : Keeper → Step → Life → Type 0
+OnPlans keeper step life = life.running ≡ must_run step → (plan : Plan) → IsPlan step life.past plan
+    → AllByRecursion keeper.ON plan.events
 
-  same_keeps : (was now : Past) → now ≡ was → KEEPS was now
-  same_keeps was now same = alike was now (ap (λ (p : Past). p.peers) same)
+-- what the step makes of the tapes after its last event is kept
+abbrev pub KeepsEnds : Keeper → Step → Type 0
+KeepsEnds keeper step = (was now : Past) → Concludes step was now → keeper.KEEPS was now
+
+module _ (keeper : Keeper) where
+  open keeper use {ON, KEEPS, alike, joined, at_same, at_intake, event_does, keeps_begun}
+
+  pub same_keeps : (was now : Past) → now ≡ was → KEEPS was now
+  same_keeps was now same = subst (KEEPS was) (sym same) (alike was)
 
   refused_keeps : (event : Event) (was now : Past) (fault : Fault) → Refuses event was fault now → KEEPS was now
   refused_keeps event was now fault refuses = elim (refused_so event was now fault refuses) [
-    | inl same ↦ alike was now same
+    | inl one ↦ subst (KEEPS was) (sym one.changed) (at_intake was one.tape one.same)
     | inr one ↦ at_same was now one.rank one.peer one.tape one.here one.changed one.same
   ]
 
   pub events_keep : (was later : Past) (events : List Event) → AllDo was events later → AllByRecursion ON events
       → KEEPS was later
-  events_keep was _ _ Start on = alike was was refl
+  events_keep was _ _ Start on = alike was
   events_keep was later _ (Next events event past _ does one safe) on =
       joined was past later (events_keep was past events does (prefix_all ON events (event ∷ []) on))
       (event_does event (last_all ON events event on) past later one)
@@ -268,76 +325,94 @@ module _ (keeper : Keeper) where
   begun_keeps past begun (inl same) = same_keeps past begun same
   begun_keeps past begun (inr same) = subst (KEEPS past) (sym same) (keeps_begun past)
 
-  module _ (step : Step) (on_step : (event : Event) → OnStep (must_run step) event → ON event) (past later : Past) where
-    plan_keeps : (plan : Plan) → IsPlan step past plan → KEEPS past plan.begun × AllByRecursion ON plan.events
-    plan_keeps plan is =
-        let f = frame step past plan is in
-        (begun_keeps past plan.begun f.begins, all_weaker (OnStep (must_run step)) ON on_step plan.events f.on)
+  -- events of a plan that were taken, from the first on
+  pub some_keep : (step : Step) (past : Past) (plan : Plan) → IsPlan step past plan → AllByRecursion ON plan.events
+      → (count : ℕ) (later : Past) → AllDo plan.begun (take count plan.events) later → KEEPS past later
+  some_keep step past plan is on count later does =
+      joined past plan.begun later (begun_keeps past plan.begun (frame step past plan is).begins)
+      (events_keep plan.begun later _ does (first_all ON count plan.events on))
 
-    pub takes_keep : (outputs : List View) → TakesPlan step past outputs later → KEEPS past later
-    takes_keep outputs t =
-        let p = plan_keeps t.plan t.is_plan in
+  module _ (step : Step) (past later : Past)
+      (on_plan : (plan : Plan) → IsPlan step past plan → AllByRecursion ON plan.events) where
+    pub takes_keep : KeepsEnds keeper step → (outputs : List View) → TakesPlan step past outputs later
+        → KEEPS past later
+    takes_keep ends outputs t =
+        let f = frame step past t.plan t.is_plan in
         joined past t.mid later
-        (joined past t.plan.begun t.mid p.0 (events_keep t.plan.begun t.mid t.plan.events t.does p.1))
-        (alike t.mid later
-        (ap (λ (p : Past). p.peers) t.later_is ∙ ((frame step past t.plan t.is_plan).ends t.mid).0))
+        (joined past t.plan.begun t.mid (begun_keeps past t.plan.begun f.begins)
+        (events_keep t.plan.begun t.mid t.plan.events t.does (on_plan t.plan t.is_plan)))
+        (subst (KEEPS t.mid) (sym t.later_is) (ends t.mid (t.plan.ends t.mid) (f.ends t.mid)))
 
     pub failed_keeps : (fault : Fault) → FailsPlan step past fault later → KEEPS past later
     failed_keeps fault f =
-        let p = plan_keeps f.plan f.is_plan in
-        joined past f.plan.begun later p.0 (fails_keep f.plan.begun later f.plan.events fault p.1 f.fails)
+        joined past f.plan.begun later (begun_keeps past f.plan.begun (frame step past f.plan f.is_plan).begins)
+        (fails_keep f.plan.begun later f.plan.events fault (on_plan f.plan f.is_plan) f.fails)
 
     pub refuses_keep : (fault : Fault) → RefusesPlan step past fault later → KEEPS past later
     refuses_keep fault (inl barred) = same_keeps past later barred.1
     refuses_keep fault (inr (inl failed)) = failed_keeps fault failed
     refuses_keep fault (inr (inr lacks)) =
-        let p = plan_keeps lacks.plan lacks.is_plan in
-        joined past lacks.plan.begun later p.0
-        (events_keep lacks.plan.begun later _ lacks.does (first_all ON lacks.count lacks.plan.events p.1))
+        some_keep step past lacks.plan lacks.is_plan (on_plan lacks.plan lacks.is_plan) lacks.count later lacks.does
 
   -- ---- stops and restarts
 
-  module _ (on_opens : (rank : ℕ) → ON (Opens rank)) (on_intake : ON OpensIntake) where
-    pub on_any : (runs : Bool) (event : Event) → OnStep runs event → ON event
-    on_any true event on = on_tape event on
-    on_any false (Opens rank) on = on_opens rank
-    on_any false OpensIntake on = on_intake
-    on_any false event on = absurd on
-
-  module _ (on_opens : (rank : ℕ) → ON (Opens rank)) (on_intake : ON OpensIntake)
-      (keeps_same : (was now : Past) → HaveSameNotes was now → KEEPS was now) where
+  module _ (keeps_same : (was now : Past) → SameButDisks was now → KEEPS was now) where
     halted_keeps : (step : Step) (manner : Manner) (stop : Armed) (under_way : Past) (life later : Life)
-        → Meets step life stop under_way → later ≡ halted manner under_way life → KEEPS life.past later.past
-    halted_keeps step manner stop under_way life later meets changed =
+        → OnPlans keeper step life → Meets step life stop under_way → later ≡ halted manner under_way life
+        → KEEPS life.past later.past
+    halted_keeps step manner stop under_way life later on meets changed =
         subst (λ (l : Life). KEEPS life.past l.past) (sym changed)
         (joined life.past under_way (left manner under_way)
-        (failed_keeps step (on_any on_opens on_intake (must_run step)) life.past under_way (Tape Disk) meets.failed)
-        (keeps_same under_way (left manner under_way) (left_same manner under_way)))
+        (failed_keeps step life.past under_way (on meets.running) (Tape Disk) meets.failed)
+        (keeps_same under_way (left manner under_way) (left_rest manner under_way)))
 
     pub strikes_keep : (step : Step) (life : Life) (outputs : List View) (later : Life)
-        → Strikes step life outputs later
-        → KEEPS life.past later.past
-    strikes_keep step life outputs later strikes =
-        halted_keeps step (ByChoice strikes.stop.choice) strikes.stop strikes.under_way life later strikes.meets
+        → OnPlans keeper step life → Strikes step life outputs later → KEEPS life.past later.past
+    strikes_keep step life outputs later on strikes =
+        halted_keeps step (ByChoice strikes.stop.choice) strikes.stop strikes.under_way life later on strikes.meets
         strikes.changed
 
     pub unreported_keeps : (step : Step) (life : Life) (fault : Fault) (later : Life)
-        → StrikesUnreported step life fault later → KEEPS life.past later.past
-    unreported_keeps step life fault later strikes =
-        halted_keeps step AtRest strikes.stop strikes.under_way life later strikes.meets strikes.changed
+        → OnPlans keeper step life → StrikesUnreported step life fault later → KEEPS life.past later.past
+    unreported_keeps step life fault later on strikes =
+        halted_keeps step AtRest strikes.stop strikes.under_way life later on strikes.meets strikes.changed
 
-    up_to : (life : Life) (cut : List Step) (past : Past) → IsMoment life cut past → KEEPS life.past past
-    up_to life _ _ Between = alike life.past life.past refl
-    up_to life _ past (Within step was now _ way moment) =
-        let p = plan_keeps step (on_any on_opens on_intake (must_run step)) life.past was way.plan way.is_plan in
+    pub up_to : (life : Life) (cut : List Step) (past : Past)
+        → AllByRecursion (λ (step : Step). OnPlans keeper step life) cut → IsMoment life cut past → KEEPS life.past past
+    up_to life _ _ on Between = alike life.past
+    up_to life _ past on (Within step was now _ way moment) =
         joined life.past was past
-        (joined life.past way.plan.begun was p.0
-        (events_keep way.plan.begun was _ way.prefix (first_all ON way.count way.plan.events p.1)))
-        (keeps_same was past (moment_same was now past moment))
+        (some_keep step life.past way.plan way.is_plan (on.0 way.running way.plan way.is_plan) way.count was way.prefix)
+        (keeps_same was past (moment_rest was now past moment))
 
-    pub crash_keeps : (life : Life) (cut : List Step) (later : Life) → Crashes life cut later
+    pub crash_keeps : (life : Life) (cut : List Step) (later : Life)
+        → AllByRecursion (λ (step : Step). OnPlans keeper step life) cut → Crashes life cut later
         → KEEPS life.past later.past
-    crash_keeps life cut later crash =
+    crash_keeps life cut later on crash =
         subst (λ (l : Life). KEEPS life.past l.past) (sym crash.changed)
-        (joined life.past crash.under_way crash.past (up_to life cut crash.under_way crash.moment)
-        (keeps_same crash.under_way crash.past (stopped_same crash.under_way crash.past crash.stopped)))
+        (joined life.past crash.under_way crash.past (up_to life cut crash.under_way on crash.moment)
+        (keeps_same crash.under_way crash.past (stopped_rest crash.under_way crash.past crash.stopped)))
+
+-- ---- keepers of the peers alone
+
+-- events of the steps on tapes
+pub plans_on : (keeper : Keeper) (step : Step) (past : Past)
+    → ((event : Event) → OnStep (must_run step) event → keeper.ON event)
+    → (plan : Plan) → IsPlan step past plan → AllByRecursion keeper.ON plan.events
+plans_on keeper step past on_step plan is =
+    all_weaker (OnStep (must_run step)) keeper.ON on_step plan.events (frame step past plan is).on
+
+-- and those of a restart
+pub on_any : (keeper : Keeper) → ((event : Event) → OnTape event → keeper.ON event)
+    → ((rank : ℕ) → keeper.ON (Opens rank)) → keeper.ON OpensIntake → (runs : Bool) (event : Event)
+    → OnStep runs event → keeper.ON event
+on_any keeper on_tape on_opens on_intake true event on = on_tape event on
+on_any keeper on_tape on_opens on_intake false (Opens rank) on = on_opens rank
+on_any keeper on_tape on_opens on_intake false OpensIntake on = on_intake
+on_any keeper on_tape on_opens on_intake false event on = absurd on
+
+-- the number of the last line does not matter
+pub any_ends : (keeper : Keeper) → ((was : Past) (number : ℕ) → keeper.KEEPS was (with_last was number))
+    → (step : Step) → KeepsEnds keeper step
+any_ends keeper numbered (Line text) was now (number, is) = subst (keeper.KEEPS was) (sym is) (numbered was number)
+any_ends keeper numbered step was now is = same_keeps keeper was now is
