@@ -30,11 +30,11 @@ use Rattle.world_core.proofs.IntakeCalls.{WithIntake, stands_intake}
 use Rattle.world_core.proofs.PeerCalls.{same_truth, tape_broken, tape_works}
 use Rattle.world_core.proofs.SoundOverEvents.{sound_intake, sound_noted}
 
-seen_old : (number : ℕ) (tape : TapePast) → number ≤ mark_at tape → seen number tape ≡ tape
+pub seen_old : (number : ℕ) (tape : TapePast) → number ≤ mark_at tape → seen number tape ≡ tape
 seen_old number tape below =
     ap (λ (b : Bool). if b then noted_at tape (Seen number) else tape) (le-ltb (mark_at tape) number below)
 
-seen_new : (number : ℕ) (tape : TapePast) → mark_at tape < number → seen number tape ≡ noted_at tape (Seen number)
+pub seen_new : (number : ℕ) (tape : TapePast) → mark_at tape < number → seen number tape ≡ noted_at tape (Seen number)
 seen_new number tape above =
     ap (λ (b : Bool). if b then noted_at tape (Seen number) else tape) (lt-ltb (mark_at tape) number above)
 

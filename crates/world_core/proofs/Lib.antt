@@ -40,6 +40,13 @@ pub mod WorldReopened
 pub mod PlansStaySound
 pub mod Crashes
 pub mod RecoveredNotes
+pub mod LineNotes
+pub mod NotesOverEvents
+pub mod FunnelOverSteps
+pub mod RestartedLines
+pub mod FunnelOverRuns
+pub mod FunnelOwed
+pub mod TakenLines
 pub mod Moments
 pub mod LineDebts
 pub mod DiskCalls

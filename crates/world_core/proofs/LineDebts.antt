@@ -36,7 +36,7 @@ use Rattle.world_core.proofs.WalkOverTapes.{owes_all}
 
 -- ---- lists
 
-zip_both : {A B : Type 0} (R : A → B → Type 0) (xs : List A) (ys : List B) (i : ℕ) (x : A) (y : B) → AllZip R xs ys
+pub zip_both : {A B : Type 0} (R : A → B → Type 0) (xs : List A) (ys : List B) (i : ℕ) (x : A) (y : B) → AllZip R xs ys
     → slice_get xs i ≡ Some x → slice_get ys i ≡ Some y → R x y
 zip_both R [] ys i x y all here there = absurd cc
 zip_both R (a ∷ xs) [] i x y all here there = absurd all
@@ -47,7 +47,7 @@ zip_both R (a ∷ xs) (b ∷ ys) zero x y all here there =
 zip_both R (a ∷ xs) (b ∷ ys) (suc i) x y all here there = zip_both R xs ys i x y all.1 here there
 
 -- an element of a list, by its index
-stands : {A : Type 0} (xs : List A) (x : A) → Contains xs x → (i : ℕ) × (slice_get xs i ≡ Some x)
+pub stands : {A : Type 0} (xs : List A) (x : A) → Contains xs x → (i : ℕ) × (slice_get xs i ≡ Some x)
 stands xs x (i, below, is) = (i, slice_get-get_or xs i x below ∙ ap Some is)
 
 -- ---- an acknowledged line

@@ -1,10 +1,11 @@
 -- Lemmas about lists, marks, and what is acknowledged.
-use Rattle.std.proofs.Common.{◌≡◌, ℕ, zero, suc, ◌<◌, ◌≤◌, Some, List, [], ◌∷◌, ◌++◌, length, get_or}
+use Rattle.std.proofs.Common.{◌≡◌, ℕ, zero, suc, ◌<◌, ◌≤◌, ◌^◌, Some, List, [], ◌∷◌, ◌++◌, length, get_or}
 use Rattle.std.proofs.Common.{take, drop, map, refl, sym, ap, ◌∙◌, subst, arith}
 use Rattle.std.proofs.Math.ListN.{set}
 use Rattle.std.specs.List.{AllByRecursion, AllZip, slice_get}
 use Rattle.std.proofs.Math.Seq.{drop-length}
 use Rattle.ledger_core.specs.declared.note.Note.{Note}
+use Rattle.ledger_core.specs.declared.note.Note.TheVariants.{Owe, Final, Drop, Seen, Closed}
 use Rattle.recovery.specs.Image.{Octets, Survives}
 use Rattle.recovery.specs.Leaving.{HasLedger, mark_of, pending_notes}
 use Rattle.recovery.specs.LeavingLaws.{prefix_of_survives}
@@ -61,6 +62,14 @@ map_set f (a ∷ xs) zero x y here same =
 map_set f (a ∷ xs) (suc i) x y here same = ap (λ l. f a ∷ l) (map_set f xs i x y here same)
 
 -- ---- what is acknowledged
+
+-- no line of the funnel made the note, and it leaves the mark of lines as it is
+abbrev pub IsNoLine : Note → Type 0
+IsNoLine (Owe key token id) = 2 ^ 64 ≤ key
+IsNoLine (Final key code) = Unit {0}
+IsNoLine (Drop key cause) = Unit {0}
+IsNoLine (Seen number) = ⊥
+IsNoLine (Closed source) = Unit {0}
 
 pub acknowledged_less : (low high : ℕ) → low ≤ high → (peer : PeerPast) → HasAcknowledged high peer
     → HasAcknowledged low peer

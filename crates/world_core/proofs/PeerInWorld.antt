@@ -19,7 +19,7 @@ use Rattle.peer_queue.specs.DebtPlace.{DebtPlace, Held, IsHeldBy, Later as Later
 use Rattle.peer_queue.specs.Settled.{key_in}
 use Rattle.peer_queue.specs.declared.settled.Settled.{Settled}
 use Rattle.peer_queue.specs.declared.settled.Settled.TheVariants.{Answered, Dropped, Later, Ready as Back}
-use Rattle.sections.specs.ListLaws.{all_at, all_set}
+use Rattle.sections.specs.ListLaws.{all_at, all_set, both_all}
 use Rattle.sections.specs.Tapes.{TapePast, mark_at, IsAbove, IsReadTape}
 use Rattle.world_core.specs.Past.{ConnPast, Past, PeerPast, with_peer, with_tape}
 use Rattle.world_core.specs.Safe.{HasAcknowledged, IsSafe, KeepsLines, KeepsNotes}
@@ -33,7 +33,7 @@ use Rattle.world_core.specs.declared.fault.Fault.{Fault}
 use Rattle.world_core.specs.declared.output.Handed.{Handed as Handover}
 use Rattle.world_core.proofs.EventLists.{take_left}
 use Rattle.world_core.proofs.HeldNumbers.{gone_none, moved_other}
-use Rattle.world_core.proofs.MarksAndNotes.{above_more}
+use Rattle.world_core.proofs.MarksAndNotes.{IsNoLine, above_more}
 use Rattle.world_core.proofs.OutcomeSettled.{settled_conf, settled_others}
 use Rattle.world_core.proofs.SoundOverEvents.{names_set}
 
@@ -66,6 +66,7 @@ pub record PeerKeeps (id : ℕ) (was now : PeerPast) : Type 0 where
   pub log : now.tape.log ≡ was.tape.log
   pub more : List Note
   pub notes : now.tape.history ≡ noted_all was.tape.history more
+  pub off : AllByRecursion IsNoLine more
   pub prefix : (state : State) → KeepsNotes was state → KeepsNotes now state
   pub acknowledged : (mark : ℕ) → HasAcknowledged mark was → HasAcknowledged mark now
   pub others : (other number : ℕ) → (other ≡ id → ⊥)
@@ -81,6 +82,7 @@ keeps_same id was = record {
   log = refl;
   more = [];
   notes = none_noted was.tape.history;
+  off = tt;
   prefix = λ state keeps. keeps;
   acknowledged = λ mark has. has;
   others = λ other number apart. (λ is. is, λ is. is);
@@ -95,6 +97,7 @@ keeps_then id was mid now one two = record {
   notes = two.notes ∙ (ap (λ (h : History). noted_all h two.more) one.notes
       ∙ ap (λ notes. record was.tape.history { notes = notes })
       (append_assoc was.tape.history.notes one.more two.more));
+  off = both_all IsNoLine one.more two.more one.off two.off;
   prefix = λ state keeps. two.prefix state (one.prefix state keeps);
   acknowledged = λ mark has. two.acknowledged mark (one.acknowledged mark has);
   others = λ other number apart. (
@@ -166,6 +169,7 @@ settled_keeps s id n was held = record {
   log = same_log s;
   more = (more_notes s).0;
   notes = (more_notes s).1;
+  off = (more_notes s).2;
   prefix = λ state keeps. still_prefix s state keeps;
   acknowledged = λ mark has. still_above s mark has;
   others = λ other number apart.
@@ -187,11 +191,11 @@ settled_keeps s id n was held = record {
     same_log Back = refl
 
     more_notes : (s : Settled) → (more : List Note)
-        × ((settled_as s n was).tape.history ≡ noted_all was.tape.history more)
-    more_notes (Answered code) = (Final n code ∷ [], refl)
-    more_notes (Dropped cause) = (Drop n cause ∷ [], refl)
-    more_notes (Later moment) = ([], none_noted was.tape.history)
-    more_notes Back = ([], none_noted was.tape.history)
+        × ((settled_as s n was).tape.history ≡ noted_all was.tape.history more) × AllByRecursion IsNoLine more
+    more_notes (Answered code) = (Final n code ∷ [], refl, (tt, tt))
+    more_notes (Dropped cause) = (Drop n cause ∷ [], refl, (tt, tt))
+    more_notes (Later moment) = ([], none_noted was.tape.history, tt)
+    more_notes Back = ([], none_noted was.tape.history, tt)
 
     still_prefix : (s : Settled) (state : State) → KeepsNotes was state → KeepsNotes (settled_as s n was) state
     still_prefix (Answered code) state keeps = prefix_noted was.tape.history (Final n code) state keeps
@@ -223,6 +227,7 @@ keeps_read id was tape places reads others =
       log = ap (λ (t : TapePast). t.log) reads.all;
       more = [];
       notes = same ∙ none_noted was.tape.history;
+      off = tt;
       prefix = λ state keeps. subst (λ (h : History). IsPrefix h state) (sym same) keeps;
       acknowledged = λ mark has. subst (λ (h : History). AllByRecursion (IsAbove mark) (pending_notes h)) (sym same)
           has;

@@ -22,7 +22,7 @@ use Rattle.world_core.specs.Events.{opened_peer, owed_as, owing_as, parted, shed
 use Rattle.world_core.specs.Events.AllDo.{Start, Next}
 use Rattle.world_core.specs.Halts.{restart_events}
 use Rattle.world_core.specs.Imports.{IsImport}
-use Rattle.world_core.specs.Safe.{HasAcknowledged}
+use Rattle.world_core.specs.Safe.{HasAcknowledged, IsSafe}
 use Rattle.world_core.specs.Sound.{HasParted, IsSound}
 use Rattle.world_core.specs.Steps.{Good, IsPlan, IsSealable, NotGood, Plan, Reading, begun_at, flush_events}
 use Rattle.world_core.specs.Steps.{reading_plan, seal_events}
@@ -189,12 +189,13 @@ see_sound was now number sound may d =
     by false = sound
 
 -- the last of some events, and those before it
-record LastDone (begun : Past) (events : List Event) (event : Event) (later : Past) : Type 0 where
-  mid : Past
-  before : AllDo begun events mid
-  last : Does event mid later
+pub record LastDone (begun : Past) (events : List Event) (event : Event) (later : Past) : Type 0 where
+  pub mid : Past
+  pub before : AllDo begun events mid
+  pub last : Does event mid later
+  pub safe : IsSafe later
 
-last_done : (begun later : Past) (all events : List Event) (event : Event) → AllDo begun all later
+pub last_done : (begun later : Past) (all events : List Event) (event : Event) → AllDo begun all later
     → all ≡ events ++ event ∷ [] → LastDone begun events event later
 last_done begun _ _ events event Start is = absurd (ends_apart events event is)
 last_done begun later _ events event (Next some one past _ does last safe) is =
@@ -203,6 +204,7 @@ last_done begun later _ events event (Next some one past _ does last safe) is =
       mid = past;
       before = subst (λ (es : List Event). AllDo begun es past) same.0 does;
       last = subst (λ (e : Event). Does e past later) same.1 last;
+      safe = safe;
     }
 
 -- the first peers, so many, were flushed since a number was kept

@@ -16,6 +16,7 @@ pub mod CrashLaws
 pub mod DropLaws
 pub mod Moments
 pub mod LineLaws
+pub mod FunnelLaws
 pub mod Fault
 pub mod StopDisk
 pub mod Trigger

@@ -4,6 +4,9 @@ ghost use Rattle.world_core.specs.CrashLaws.{AnyKillComesAbout, AnyPowerFailureC
 ghost use Rattle.world_core.specs.DropLaws.{AllAreAccountedFor};
 ghost use Rattle.world_core.specs.Events.{AllDo, Event};
 ghost use Rattle.world_core.specs.ExchangeLaws.{HandingIsEvents, OutcomesAreEvents, PutBackIsSame};
+ghost use Rattle.world_core.specs.FunnelLaws.{DebtsAreAcknowledged, DebtsAreOfLines, EmptyAtFirst};
+ghost use Rattle.world_core.specs.FunnelLaws.{FunnelIsOwed, FunnelIsOwedWithin, OverFunnels};
+ghost use Rattle.world_core.specs.FunnelLaws.{TakenIsAcknowledged, TakenIsQueued};
 ghost use Rattle.world_core.specs.Keeping.{PeerStays, PeersStay};
 ghost use Rattle.world_core.specs.Laws.{AllAreRecovered, AllFinalsAreRight, AllStayAcknowledged};
 ghost use Rattle.world_core.specs.Laws.{Comes, LinesAreAcknowledged, OverRuns, StillOwes};
@@ -143,3 +146,27 @@ pub fn each_debt_is_accounted_for()
     each_debt_comes_out_once();
     verdicts_are_right()
 }
+
+/// From a funnel's line on, over whole runs: let any steps go by the lines of a funnel, from an empty spool on (such is
+/// a world that `World::new` made: `begins`), with any stops, crashes and restarts among them. The debt of an
+/// acknowledged line is acknowledged at each peer that the line names (`acknowledged`), and no peer has a debt of a
+/// line that does not name it, or under another number (`of_lines`). Whatever a stop leaves of all tapes at one moment,
+/// each line up to the mark of the intake's tape is owed at each peer that it names, unless what is left there has the
+/// peer's final answer to it or a drop of it (`stopped`); the same at each moment within the next step (`within`).
+pub fn funnel_is_owed()
+    ensures begins { EmptyAtFirst }
+    ensures acknowledged { OverFunnels DebtsAreAcknowledged }
+    ensures of_lines { OverFunnels DebtsAreOfLines }
+    ensures stopped { OverFunnels FunnelIsOwed }
+    ensures within { OverFunnels FunnelIsOwedWithin }
+{}
+
+/// A step that reports `taken N` leaves a world in which any stop leaves the intake's tape a mark at or above N, so
+/// that the lines up to N are acknowledged (`step`). And after it, over any steps that go by the lines of a funnel,
+/// with any stops, crashes and restarts among them, each line up to N is queued at every peer that it names: its debt
+/// is among the peer's acknowledged notes, and whatever a stop leaves of the peer's tape owes it, or has the peer's
+/// final answer to it or a drop of it (`run`).
+pub fn reported_taken()
+    ensures step { TakenIsAcknowledged }
+    ensures run { TakenIsQueued }
+{}
