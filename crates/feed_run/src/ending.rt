@@ -69,12 +69,13 @@ pub(crate) fn left_by<'a, F, W, N: Naming>(
 fn left_by_feeder<S: SpoolDirectory + Drop, C: Net + Drop, N: Naming>(
     counted: CountedWorker<'_, Feeder<S, C, N>>,
 ) -> LeftFeeder<N> {
+    let CountedWorker { worker, .. } = counted;
     let Feeder {
         share,
         fault,
         unread,
         ..
-    } = counted.worker;
+    } = worker;
     LeftFeeder {
         share,
         fault,

@@ -588,9 +588,41 @@ fn run_workers<
     } = feeders;
     let countdown = Countdown::new(2);
     let buffers = flusher.articles.named();
-    let mut intake = intake_of(
-        env, backlogs, taking, share, names, wakers, buffers, &countdown, out,
-    );
+    let alloc = env.files.alloc();
+    let Taking {
+        funnel,
+        keeper,
+        room,
+        status,
+        stop,
+        start,
+        acknowledged,
+    } = taking;
+    let mut intake = IntakeWorker {
+        alloc,
+        share,
+        funnel,
+        out,
+        wakers,
+        names,
+        status: StatusFile::new(env.files, status, start),
+        progress: Progress::new(alloc, start, stop.is_some()),
+        nowhere: Nowhere::new(alloc),
+        keeper,
+        files: env.files,
+        tapes: backlogs.tapes,
+        directory: backlogs.path,
+        room,
+        buffers,
+        acknowledged,
+        unprinted: None,
+        printed: None,
+        nowhere_logged: start,
+        countdown: &countdown,
+        stop,
+        has_no_status: false,
+        end: FeedEnd::well(alloc),
+    };
     let feeders = (counted(first, &countdown), counted(second, &countdown));
     let signals = Signals::new();
     let ended = run_threads(
@@ -612,55 +644,6 @@ fn run_workers<
 // A worker that counts down there once it has ended.
 fn counted<W>(worker: W, countdown: &Countdown) -> CountedWorker<'_, W> {
     CountedWorker { worker, countdown }
-}
-
-// The intake, with this share.
-fn intake_of<'a, R, F: AllocGlobal + Files<File = File>, H, C, L, W, N: Naming>(
-    env: &RunEnv<'a, R, F, H, C, L>,
-    backlogs: Backlogs<'a>,
-    taking: Taking<'a, F>,
-    share: IntakeShare<N>,
-    names: &'a [PeerName],
-    wakers: (Arc<Waker>, Arc<Waker>),
-    buffers: Option<&'a NamedBuffers>,
-    countdown: &'a Countdown,
-    out: &'a mut W,
-) -> IntakeWorker<'a, F, W, N> {
-    let alloc = env.files.alloc();
-    let Taking {
-        funnel,
-        keeper,
-        room,
-        status,
-        stop,
-        start,
-        acknowledged,
-    } = taking;
-    IntakeWorker {
-        alloc,
-        share,
-        funnel,
-        out,
-        wakers,
-        names,
-        status: StatusFile::new(env.files, status, start),
-        progress: Progress::new(alloc, start, stop.is_some()),
-        nowhere: Nowhere::new(alloc),
-        keeper,
-        files: env.files,
-        tapes: backlogs.tapes,
-        directory: backlogs.path,
-        room,
-        buffers,
-        acknowledged,
-        unprinted: None,
-        printed: None,
-        nowhere_logged: start,
-        countdown,
-        stop,
-        has_no_status: false,
-        end: FeedEnd::well(alloc),
-    }
 }
 
 // The two feeders, with these shares.
