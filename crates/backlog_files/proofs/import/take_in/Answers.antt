@@ -106,4 +106,4 @@ returns-clause-imports g c octets given known =
     let some : (fault : ImportFault) → TakesSome octets (ledger_of c.args.peer.now.station) now fault = λ fault.
     reaches_some octets (ledger_of c.args.peer.now.station) now now c.loop.import.number c.loop.import.report fault
     c.loop.lines (c.loop.invariant.0 octets given known) (ends_open fault now now refl) in
-    search (some, rules)
+    some _
