@@ -1,26 +1,28 @@
 -- Each section keeps what is sound.
 use Rattle.std.proofs.Common.{◌≡◌, ℕ, ◌+◌, ◌≤◌, true, false, Some, List, [], ◌∷◌, ◌++◌, length}
-use Rattle.std.proofs.Common.{drop, sym, ap, ◌∙◌, subst, inl, inr, arith}
-use Rattle.std.proofs.lemmas.Bool.{cases_lt}
+use Rattle.std.proofs.Common.{sym, ap, ◌∙◌, subst, arith}
 use Rattle.std.specs.Prelude.{slice_set}
 use Rattle.std.specs.List.{AllByRecursion, AllZip, slice_get}
 use Rattle.ledger_core.specs.declared.note.Note.TheVariants.{Seen}
 use Rattle.ledger_core.specs.State.{AllLegal, IsLegal, State, after}
 use Rattle.ledger_core.specs.StateLaws.{AllLegal-append, after-append}
-use Rattle.sections.specs.ListLaws.{all_at, all_push, all_set, all_weaker, at_all, drop_later, get_once, get_set}
-use Rattle.sections.specs.ListLaws.{get_within, none_behind, zip_all, zip_get, zip_put, zip_same, zip_second}
-use Rattle.sections.specs.Post.{PostPast, SealingPast, StationPast, notes_of, with_intake, with_sealing, with_station}
-use Rattle.sections.specs.Sections.{Does, IsReopened, IsStopped, IsStoppedStation, Section, begun_at}
-use Rattle.sections.specs.Sections.{counted_on, seen}
+use Rattle.sections.specs.ListLaws.{all_at, all_push, all_set, all_weaker, at_all, drop_later, get_once, none_behind}
+use Rattle.sections.specs.ListLaws.{zip_all, zip_at, zip_get, zip_put, zip_same, zip_second, zip_set_first}
+use Rattle.sections.specs.ListLaws.{zip_set_second}
+use Rattle.sections.specs.Post.{PostPast, Progress, SealingPast, StationPast, front_history, notes_of, with_intake}
+use Rattle.sections.specs.Post.{with_progress, with_sealing, with_station}
+use Rattle.sections.specs.Post.Progress.{Counted, Due}
+use Rattle.sections.specs.Sections.{Does, HasCountedAll, IsReopened, IsStopped, IsStoppedStation, Section, begun_at}
+use Rattle.sections.specs.Sections.{seen}
 use Rattle.sections.specs.Sections.Does.{At_station, Intake_is_opened, Is_begun, Is_called_at_intake}
 use Rattle.sections.specs.Sections.Does.{Is_counted, Is_due, Is_sealed, Is_shown, Is_stopped, Was_sealed}
-use Rattle.sections.specs.Sound.{HasAcknowledged, HasSeen, IsSound, IsSoundSealing, IsSoundStation}
+use Rattle.sections.specs.Sound.{HasAcknowledged, IsKnown, IsSound, IsSoundSealing, IsSoundStation}
 use Rattle.sections.specs.TapeLaws.{pends_less, prefix_mark}
-use Rattle.sections.specs.Tapes.{AllAbove, IsAbove, TapePast, ledger_at, mark_at}
-use Rattle.sections.specs.Post.{front_history}
+use Rattle.sections.specs.Tapes.{IsAbove, TapePast, ledger_at, mark_at}
 use Rattle.sections.proofs.AtTapes.{KeepsNotesOf, KeepsTape, call_keeps, noted_keeps, opened_keeps}
 use Rattle.sections.proofs.AtTapes.{same_tape, stopped_keeps}
-use Rattle.sections.proofs.AtStations.{Keeps, station_keeps, stays_acknowledged, stays_seen, stopped_station}
+use Rattle.sections.proofs.AtStations.{Keeps, all_counted, all_wait, station_keeps, stays_acknowledged, stays_known}
+use Rattle.sections.proofs.AtStations.{stopped_station}
 
 -- what a section keeps of the tapes of all stations
 abbrev pub TapesKept : StationPast → StationPast → Type 0
@@ -50,24 +52,17 @@ at_station past rank was now sound here keeps = record {
         (stays_acknowledged past.last (mark_at past.intake) was now sound.marked keeps
         (all_at (HasAcknowledged (mark_at past.intake)) past.stations rank was sound.acknowledged here));
     sealings = all_weaker (IsSoundSealing past.stations past.last)
-        (IsSoundSealing (slice_set past.stations rank now) past.last) still_sealing past.sealings sound.sealings;
+        (IsSoundSealing (slice_set past.stations rank now) past.last) (λ sealing one. record {
+          below = one.below;
+          known = zip_set_second (IsKnown sealing.number) sealing.progress past.stations rank now one.known (λ p is.
+              stays_known past.last sealing.number p was now one.below keeps
+              (zip_at (IsKnown sealing.number) sealing.progress past.stations rank p was one.known is here));
+        }) past.sealings sound.sealings;
   };
   stations = zip_put TapesKept (λ station one. same_tape station.tape one.within) past.stations rank was now here
       (λ one. keeps.tape);
   intake = same_tape past.intake sound.within;
 }
-  where
-    still_sealing : (sealing : SealingPast) → IsSoundSealing past.stations past.last sealing
-        → IsSoundSealing (slice_set past.stations rank now) past.last sealing
-    still_sealing sealing one = record {
-      below = one.below;
-      seen = λ r station is. elim (get_set past.stations rank r now station is) [
-        | inl same ↦ subst (λ i. HasSeen sealing i station) (sym same.0)
-            (subst (HasSeen sealing rank) (sym same.1)
-            (stays_seen past.last sealing rank was now one.below keeps (one.seen rank was here)))
-        | inr other ↦ one.seen r station other
-      ];
-    }
 
 -- ---- sealings
 
@@ -88,55 +83,36 @@ sealed_so past sealings sound all = record {
   intake = same_tape past.intake sound.within;
 }
 
-due_sound : (past : PostPast) (sealing : SealingPast) (station : StationPast)
+-- it knows of the station at this rank what is so
+abbrev known_sound : (past : PostPast) (sealing : SealingPast) (rank : ℕ) (one : Progress)
     → IsSoundSealing past.stations past.last sealing
-    → slice_get past.stations sealing.counted ≡ Some station
-    → IsSoundSealing past.stations past.last (record sealing { due = Some (length (notes_of station)) })
-due_sound past sealing station sound here = record {
+    → ((station : StationPast) → slice_get past.stations rank ≡ Some station → IsKnown sealing.number one station)
+    → IsSoundSealing past.stations past.last (with_progress sealing rank one)
+known_sound past sealing rank one sound is = record {
   below = sound.below;
-  seen = λ rank other is. record {
-    counted = (sound.seen rank other is).counted;
-    due = λ next count due.
-        let same : other ≡ station = get_once past.stations sealing.counted station other here
-        (subst (λ r. slice_get past.stations r ≡ Some other) next is) in
-        let count_is : length (notes_of station) ≡ count = cc in
-        subst (λ k. AllAbove sealing.number (drop k (notes_of other))) count_is
-        (subst (λ l. AllAbove sealing.number (drop (length (notes_of station)) (notes_of l))) (sym same)
-        (none_behind (IsAbove sealing.number) (notes_of station)));
-  };
+  known = zip_set_first (IsKnown sealing.number) sealing.progress past.stations rank one sound.known is;
 }
 
-counted_sound : (past : PostPast) (sealing : SealingPast) (station : StationPast) (count : ℕ) → IsSound past
-    → IsSoundSealing past.stations past.last sealing
-    → slice_get past.stations sealing.counted ≡ Some station → sealing.due ≡ Some count → count ≤ station.settled
-    → IsSoundSealing past.stations past.last (counted_on sealing)
-counted_sound past sealing station count sound one here due le = record {
-  below = one.below;
-  seen = λ rank other is. record {
-    counted = λ before. elim (cases_lt rank sealing.counted) [
-      | inl less ↦ (one.seen rank other is).counted less
-      | inr more ↦ (
-          let next : rank ≡ sealing.counted = omega (arith, before, more) in
-          let same : other ≡ station = get_once past.stations sealing.counted station other here
-          (subst (λ r. slice_get past.stations r ≡ Some other) next is) in
-          let settled = (all_at IsSoundStation past.stations rank other sound.stations is).settled in
-          let enough : count ≤ other.settled = subst (λ (l : StationPast). count ≤ l.settled) (sym same) le in
-          drop_later (IsAbove sealing.number) count other.tape.history.kept (notes_of other)
-          (omega (arith, enough, settled))
-          ((one.seen rank other is).due next count due))
-    ];
-    due = λ next other_count none. absurd cc;
-  };
-}
+due_sound : (past : PostPast) (sealing : SealingPast) (rank : ℕ) (station : StationPast)
+    → IsSoundSealing past.stations past.last sealing → slice_get past.stations rank ≡ Some station
+    → IsSoundSealing past.stations past.last (with_progress sealing rank (Due (length (notes_of station))))
+due_sound past sealing rank station sound here =
+    known_sound past sealing rank (Due (length (notes_of station))) sound (λ other is.
+    subst (IsKnown sealing.number (Due (length (notes_of station))))
+    (sym (get_once past.stations rank station other here is)) (none_behind (IsAbove sealing.number) (notes_of station)))
 
-begun_sound : (past : PostPast) → IsSoundSealing past.stations past.last (begun_at past.last)
-begun_sound past = record {
-  below = omega arith;
-  seen = λ rank station here. record {
-    counted = λ before. absurd (omega (arith, before));
-    due = λ next count is. absurd cc;
-  };
-}
+counted_sound : (past : PostPast) (sealing : SealingPast) (rank : ℕ) (station : StationPast) (count : ℕ) → IsSound past
+    → IsSoundSealing past.stations past.last sealing → slice_get past.stations rank ≡ Some station
+    → slice_get sealing.progress rank ≡ Some (Due count) → count ≤ station.settled
+    → IsSoundSealing past.stations past.last (with_progress sealing rank Counted)
+counted_sound past sealing rank station count sound one here due le =
+    let settled = (all_at IsSoundStation past.stations rank station sound.stations here).settled in
+    let known = zip_at (IsKnown sealing.number) sealing.progress past.stations rank (Due count) station one.known due
+    here in
+    known_sound past sealing rank Counted one (λ other is.
+    subst (HasAcknowledged sealing.number) (sym (get_once past.stations rank station other here is))
+    (drop_later (IsAbove sealing.number) count station.tape.history.kept (notes_of station)
+    (omega (arith, le, settled)) known))
 
 -- ---- the intake
 
@@ -147,7 +123,7 @@ seen_mark number tape =
 
 sealed_keeps : (past : PostPast) (sealing : SealingPast) → IsSound past
     → IsSoundSealing past.stations past.last sealing
-    → length past.stations ≤ sealing.counted → IsLegal (ledger_at past.intake) (Seen sealing.number)
+    → HasCountedAll sealing → IsLegal (ledger_at past.intake) (Seen sealing.number)
     → KeepsPost past (with_intake past (seen sealing.number past.intake))
 sealed_keeps past sealing sound one all legal =
     let tape = noted_keeps past.intake (Seen sealing.number) sound.within in
@@ -158,11 +134,9 @@ sealed_keeps past sealing sound one all legal =
             sound.legal (legal, tt);
         within = tape.within;
         marked = omega (arith, seen_mark sealing.number past.intake, one.below);
-        acknowledged = at_all (HasAcknowledged (mark_at (seen sealing.number past.intake))) past.stations
-            (λ rank station here.
-            subst (λ mark. HasAcknowledged mark station) (sym (seen_mark sealing.number past.intake))
-            ((one.seen rank station here).counted
-            (omega (arith, get_within past.stations rank station here, all))));
+        acknowledged = subst (λ mark. AllByRecursion (HasAcknowledged mark) past.stations)
+            (sym (seen_mark sealing.number past.intake))
+            (all_counted sealing.number sealing.progress past.stations all one.known);
         sealings = sound.sealings;
       };
       stations = same_stations past.stations;
@@ -293,20 +267,20 @@ section_keeps past later section sound (Is_shown runs) = record {
     marked = omega (arith, sound.marked);
     acknowledged = sound.acknowledged;
     sealings = all_weaker (IsSoundSealing past.stations past.last) (IsSoundSealing past.stations (past.last + 1))
-        (λ sealing one. record { below = omega (arith, one.below); seen = one.seen }) past.sealings sound.sealings;
+        (λ sealing one. record { below = omega (arith, one.below); known = one.known }) past.sealings sound.sealings;
   };
   stations = same_stations past.stations;
   intake = same_tape past.intake sound.within;
 }
 section_keeps past later section sound (Is_begun runs) =
-    sealed_so past (past.sealings ++ begun_at past.last ∷ []) sound
-    (all_push (IsSoundSealing past.stations past.last) past.sealings (begun_at past.last) sound.sealings
-    (begun_sound past))
-section_keeps past later section sound (Is_due id sealing station is here) =
-    with_sealing_so past id _ sound (due_sound past sealing station (at_sealing past id sealing sound is) here)
-section_keeps past later section sound (Is_counted id count sealing station is here due le) =
+    sealed_so past (past.sealings ++ begun_at past.last (length past.stations) ∷ []) sound
+    (all_push (IsSoundSealing past.stations past.last) past.sealings (begun_at past.last (length past.stations))
+    sound.sealings (record { below = omega arith; known = all_wait past.last past.stations }))
+section_keeps past later section sound (Is_due id rank sealing station is here) =
+    with_sealing_so past id _ sound (due_sound past sealing rank station (at_sealing past id sealing sound is) here)
+section_keeps past later section sound (Is_counted id rank count sealing station is here due le) =
     with_sealing_so past id _ sound
-    (counted_sound past sealing station count sound (at_sealing past id sealing sound is) here due le)
+    (counted_sound past sealing rank station count sound (at_sealing past id sealing sound is) here due le)
 section_keeps past later section sound (Is_sealed id sealing is all works legal) =
     sealed_keeps past sealing sound (at_sealing past id sealing sound is) all legal
 section_keeps past later section sound (Was_sealed id sealing is all below) =

@@ -1,14 +1,16 @@
 -- What each section makes of a station.
-use Rattle.std.proofs.Common.{◌≡◌, ℕ, ◌≤◌, List, [], ◌∷◌, ◌++◌, max}
-use Rattle.std.proofs.Common.{take, drop, refl, sym, ap, ◌∙◌, subst, arith, take-append-drop}
+use Rattle.std.proofs.Common.{◌≡◌, ℕ, ◌≤◌, List, [], ◌∷◌, ◌++◌, length, max}
+use Rattle.std.proofs.Common.{replicate, take, drop, refl, sym, ap, ◌∙◌, subst, arith, take-append-drop}
 use Rattle.std.proofs.Common.{append_assoc, append-nil}
+use Rattle.std.specs.List.{AllByRecursion, AllZip}
 use Rattle.ledger_core.specs.declared.note.Note.{Note}
 use Rattle.recovery.specs.Notes.{History}
-use Rattle.sections.specs.ListLaws.{all_weaker, drop_later, drop_less, drop_more}
-use Rattle.sections.specs.Post.{SealingPast, StationPast, notes_of, with_tape}
+use Rattle.sections.specs.ListLaws.{all_weaker, drop_later, drop_less, drop_more, zip_second}
+use Rattle.sections.specs.Post.{Progress, StationPast, notes_of, with_tape}
+use Rattle.sections.specs.Post.Progress.{Counted, Due, Waits}
 use Rattle.sections.specs.Sections.{IsReopened, IsStoppedStation, OfStation, Section, opened}
 use Rattle.sections.specs.Sections.OfStation.{Is_called, Is_cut_off, Is_learnt, Is_noted, Is_opened, Is_pulled, Is_sent}
-use Rattle.sections.specs.Sound.{HasAcknowledged, HasSeen, IsSoundStation}
+use Rattle.sections.specs.Sound.{HasAcknowledged, IsKnown, IsSoundStation}
 use Rattle.sections.specs.TapeLaws.{above_less}
 use Rattle.sections.specs.Tapes.{AllAbove, IsAbove, TapePast}
 use Rattle.sections.proofs.AtTapes.{KeepsTape, call_keeps, noted_keeps, opened_history, opened_keeps}
@@ -165,9 +167,23 @@ stays_acknowledged last mark was now below keeps has =
     drop_later (IsAbove mark) was.tape.history.kept now.tape.history.kept (notes_of now) keeps.tape.kept
     (keeps.above mark was.tape.history.kept below has)
 
-pub stays_seen : (last : ℕ) (sealing : SealingPast) (rank : ℕ) (was now : StationPast) → sealing.number ≤ last
-    → Keeps last was now → HasSeen sealing rank was → HasSeen sealing rank now
-stays_seen last sealing rank was now below keeps seen = record {
-  counted = λ before. stays_acknowledged last sealing.number was now below keeps (seen.counted before);
-  due = λ next count is. keeps.above sealing.number count below (seen.due next count is);
-}
+pub stays_known : (last number : ℕ) (one : Progress) (was now : StationPast) → number ≤ last → Keeps last was now
+    → IsKnown number one was → IsKnown number one now
+stays_known last number Waits was now below keeps known = tt
+stays_known last number (Due count) was now below keeps known = keeps.above number count below known
+stays_known last number Counted was now below keeps known = stays_acknowledged last number was now below keeps known
+
+-- ---- what a sealing knows
+
+-- of nothing but notes that were counted
+pub all_counted : (number : ℕ) (progress : List Progress) (stations : List StationPast)
+    → AllByRecursion (λ (one : Progress). one ≡ Counted) progress → AllZip (IsKnown number) progress stations
+    → AllByRecursion (HasAcknowledged number) stations
+all_counted number progress stations all known =
+    zip_second (IsKnown number) (λ (one : Progress). one ≡ Counted) (HasAcknowledged number)
+    (λ one station is has. subst (λ (p : Progress). IsKnown number p station) is has) progress stations all known
+
+pub all_wait : (number : ℕ) (stations : List StationPast)
+    → AllZip (IsKnown number) (replicate (length stations) Waits) stations
+all_wait number [] = tt
+all_wait number (station ∷ stations) = (tt, all_wait number stations)

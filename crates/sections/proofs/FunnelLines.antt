@@ -17,8 +17,9 @@ use Rattle.sections.specs.Funnel.Feeds.{Begin, Then}
 use Rattle.sections.specs.Laws.{IsBegunStation}
 use Rattle.sections.specs.ListLaws.{all_at, all_push, all_set, all_weaker, get_below, get_first, get_left, get_once}
 use Rattle.sections.specs.ListLaws.{get_set, get_within, zip_get}
-use Rattle.sections.specs.Post.{PostPast, SealingPast, StationPast, notes_of, with_station}
-use Rattle.sections.specs.Sections.{Does, IsStoppedStation, OfStation, Runs, Section, begun_at, counted_on}
+use Rattle.sections.specs.Post.{PostPast, SealingPast, StationPast, notes_of, with_progress, with_station}
+use Rattle.sections.specs.Post.Progress.{Counted, Due}
+use Rattle.sections.specs.Sections.{Does, IsStoppedStation, OfStation, Runs, Section, begun_at}
 use Rattle.sections.specs.Sections.{seen}
 use Rattle.sections.specs.Sections.Does.{At_station, Intake_is_opened, Is_begun, Is_called_at_intake}
 use Rattle.sections.specs.Sections.Does.{Is_counted, Is_due, Is_sealed, Is_shown, Is_stopped, Was_sealed}
@@ -30,7 +31,7 @@ use Rattle.sections.specs.TapeLaws.{owed_by, prefix_mark}
 use Rattle.sections.specs.Tapes.{OwesOrEnded, mark_at}
 use Rattle.sections.proofs.AtPosts.{TapesKept, opened_mark, same_mark, section_keeps, seen_mark}
 use Rattle.sections.proofs.AtStations.{Keeps, noted_all_of, opened_notes, pulled_all_of, sent_all_of, station_keeps}
-use Rattle.sections.proofs.AtStations.{stopped_notes}
+use Rattle.sections.proofs.AtStations.{all_counted, stopped_notes}
 use Rattle.sections.proofs.AtTapes.{call_keeps, opened_keeps, opened_kept, over_weaker, stopped_keeps}
 use Rattle.sections.proofs.Lines.{below_kept}
 use Rattle.sections.proofs.OverRuns.{begins, intake_safe, run_keeps}
@@ -402,23 +403,23 @@ section_feeds funnel past later section sound lines fed (Is_shown runs) = record
 section_feeds funnel past later section sound lines fed (Is_begun runs) = record {
   stations = lines.stations;
   shown = lines.shown;
-  sealings = all_push (λ (s : SealingPast). UpTo funnel past.stations s.number) past.sealings (begun_at past.last)
-      lines.sealings (lines.shown runs);
+  sealings = all_push (λ (s : SealingPast). UpTo funnel past.stations s.number) past.sealings
+      (begun_at past.last (length past.stations)) lines.sealings (lines.shown runs);
   marked = lines.marked;
 }
-section_feeds funnel past later section sound lines fed (Is_due id sealing station is here) = record {
+section_feeds funnel past later section sound lines fed (Is_due id rank sealing station is here) = record {
   stations = lines.stations;
   shown = lines.shown;
   sealings = all_set (λ (s : SealingPast). UpTo funnel past.stations s.number) past.sealings id
-      (record sealing { due = Some (length (notes_of station)) }) lines.sealings
+      (with_progress sealing rank (Due (length (notes_of station)))) lines.sealings
       (all_at (λ (s : SealingPast). UpTo funnel past.stations s.number) past.sealings id sealing lines.sealings is);
   marked = lines.marked;
 }
-section_feeds funnel past later section sound lines fed (Is_counted id count sealing station is here due le) = record {
+section_feeds funnel past later section sound lines fed (Is_counted id rank count sealing one is here due le) = record {
   stations = lines.stations;
   shown = lines.shown;
-  sealings = all_set (λ (s : SealingPast). UpTo funnel past.stations s.number) past.sealings id (counted_on sealing)
-      lines.sealings
+  sealings = all_set (λ (s : SealingPast). UpTo funnel past.stations s.number) past.sealings id
+      (with_progress sealing rank Counted) lines.sealings
       (all_at (λ (s : SealingPast). UpTo funnel past.stations s.number) past.sealings id sealing lines.sealings is);
   marked = lines.marked;
 }
@@ -574,7 +575,8 @@ receipts_owed funnel begun later sections empty feeds index sealing is all numbe
     EachLedger-weaker (IsPrefix station.tape.history) (OwesLine funnel number station)
     (owes_line funnel sealing.number number station
     (all_at IsSoundStation later.stations rank station fed.sound.stations here)
-    ((one.seen rank station here).counted (omega (arith, get_within later.stations rank station here, all))) le
+    (all_at (HasAcknowledged sealing.number) later.stations rank station
+    (all_counted sealing.number sealing.progress later.stations all one.known) here) le
     (up number rank station le names here)) station.tape.log
     (all_at (λ (s : StationPast). EachLedger (KeepsNotes s) s.tape.log) later.stations rank station
     fed.safe.stations here)

@@ -1,6 +1,6 @@
 -- A run of the threads over the lines of a funnel, with octets on the disks: two lines are taken, flushed and sealed.
 -- `funnel_is_owed` is read off it, as a list of debts. The octets are in specs/WorkedTapes.antt.
-use Rattle.std.proofs.Common.{◌≡◌, ◌<◌, ◌≤◌, ◌==◌, ◌∙◌, ℕ, zero, suc, true, false, None, Some, [], ◌∷◌, refl}
+use Rattle.std.proofs.Common.{◌≡◌, ◌<◌, ◌≤◌, ◌==◌, ◌∙◌, ℕ, zero, suc, true, false, Some, [], ◌∷◌, refl}
 use Rattle.std.proofs.Common.{List, ap, arith, subst, sym}
 use Rattle.std.specs.Prelude.{Contains, codes, if◌then◌else◌}
 use Rattle.std.specs.List.{slice_get}
@@ -13,6 +13,7 @@ use Rattle.recovery.specs.LeavingLaws.{EachLedger-weaker, each_may}
 use Rattle.sections.specs.Funnel.{Feeds, Funnel, HasTaken, IsEmpty, IsFed, IsFedNote, Names, OwesLine, OwesUpTo}
 use Rattle.sections.specs.Funnel.Feeds.{Begin, Then}
 use Rattle.sections.specs.Post.{PostPast, SealingPast, StationPast}
+use Rattle.sections.specs.Post.Progress.{Counted, Due}
 use Rattle.sections.specs.Sections.{IsPut, Section, begun_at}
 use Rattle.sections.specs.Sections.Call.{Puts}
 use Rattle.sections.specs.Sections.Does.{At_station, Is_begun, Is_called_at_intake, Is_counted, Is_due, Is_sealed}
@@ -69,10 +70,10 @@ acknowledged = tape (Seen 2 ∷ []) 1 seen_flushed
 
 -- the receipt, once it has looked at the front, and once it has counted the station
 abbrev due : SealingPast
-due = record { number = 2; counted = 0; due = Some 2 }
+due = record { number = 2; progress = Due 2 ∷ [] }
 
 abbrev counted : SealingPast
-counted = record { number = 2; counted = 1; due = None }
+counted = record { number = 2; progress = Counted ∷ [] }
 
 -- ---- the spool is empty
 
@@ -181,50 +182,50 @@ two_shown = record {
 -- ---- the run
 
 abbrev run : List Section
-run = Notes 0 one ∷ Shows ∷ Notes 0 two ∷ Shows ∷ Begins ∷ Sends 0 ∷ Sends 0 ∷ Pulls 0 ∷ Pulls 0 ∷ Dues 0 ∷ Calls 0
-    Puts ∷ Learns 0 2 ∷ Counts 0 ∷ Seals 0 ∷ Calls_intake Puts ∷ []
+run = Notes 0 one ∷ Shows ∷ Notes 0 two ∷ Shows ∷ Begins ∷ Sends 0 ∷ Sends 0 ∷ Pulls 0 ∷ Pulls 0 ∷ Dues 0 0 ∷ Calls 0
+    Puts ∷ Learns 0 2 ∷ Counts 0 0 ∷ Seals 0 ∷ Calls_intake Puts ∷ []
 
 abbrev ends : PostPast
 ends = (post (station (one ∷ two ∷ []) 2 two_flushed [] [] 2) acknowledged 2 (counted ∷ []))
 
 feeds : Feeds funnel (post (station [] 0 made [] [] 0) unseen 0 []) run ends
 feeds =
-    Then (Notes 0 one ∷ Shows ∷ Notes 0 two ∷ Shows ∷ Begins ∷ Sends 0 ∷ Sends 0 ∷ Pulls 0 ∷ Pulls 0 ∷ Dues 0 ∷
-    Calls 0 Puts ∷ Learns 0 2 ∷ Counts 0 ∷ Seals 0 ∷ []) (Calls_intake Puts)
+    Then (Notes 0 one ∷ Shows ∷ Notes 0 two ∷ Shows ∷ Begins ∷ Sends 0 ∷ Sends 0 ∷ Pulls 0 ∷ Pulls 0 ∷ Dues 0 0 ∷
+    Calls 0 Puts ∷ Learns 0 2 ∷ Counts 0 0 ∷ Seals 0 ∷ []) (Calls_intake Puts)
     (post (station (one ∷ two ∷ []) 2 two_flushed [] [] 2) noted 2 (counted ∷ []))
     (post (station (one ∷ two ∷ []) 2 two_flushed [] [] 2) acknowledged 2 (counted ∷ []))
-    (Then (Notes 0 one ∷ Shows ∷ Notes 0 two ∷ Shows ∷ Begins ∷ Sends 0 ∷ Sends 0 ∷ Pulls 0 ∷ Pulls 0 ∷ Dues 0 ∷
-    Calls 0 Puts ∷ Learns 0 2 ∷ Counts 0 ∷ []) (Seals 0)
+    (Then (Notes 0 one ∷ Shows ∷ Notes 0 two ∷ Shows ∷ Begins ∷ Sends 0 ∷ Sends 0 ∷ Pulls 0 ∷ Pulls 0 ∷ Dues 0 0 ∷
+    Calls 0 Puts ∷ Learns 0 2 ∷ Counts 0 0 ∷ []) (Seals 0)
     (post (station (one ∷ two ∷ []) 2 two_flushed [] [] 2) unseen 2 (counted ∷ []))
     (post (station (one ∷ two ∷ []) 2 two_flushed [] [] 2) noted 2 (counted ∷ []))
-    (Then (Notes 0 one ∷ Shows ∷ Notes 0 two ∷ Shows ∷ Begins ∷ Sends 0 ∷ Sends 0 ∷ Pulls 0 ∷ Pulls 0 ∷ Dues 0 ∷
-    Calls 0 Puts ∷ Learns 0 2 ∷ []) (Counts 0)
+    (Then (Notes 0 one ∷ Shows ∷ Notes 0 two ∷ Shows ∷ Begins ∷ Sends 0 ∷ Sends 0 ∷ Pulls 0 ∷ Pulls 0 ∷ Dues 0 0 ∷
+    Calls 0 Puts ∷ Learns 0 2 ∷ []) (Counts 0 0)
     (post (station (one ∷ two ∷ []) 2 two_flushed [] [] 2) unseen 2 (due ∷ []))
     (post (station (one ∷ two ∷ []) 2 two_flushed [] [] 2) unseen 2 (counted ∷ []))
-    (Then (Notes 0 one ∷ Shows ∷ Notes 0 two ∷ Shows ∷ Begins ∷ Sends 0 ∷ Sends 0 ∷ Pulls 0 ∷ Pulls 0 ∷ Dues 0 ∷
+    (Then (Notes 0 one ∷ Shows ∷ Notes 0 two ∷ Shows ∷ Begins ∷ Sends 0 ∷ Sends 0 ∷ Pulls 0 ∷ Pulls 0 ∷ Dues 0 0 ∷
     Calls 0 Puts ∷ []) (Learns 0 2) (post (station (one ∷ two ∷ []) 2 two_flushed [] [] 0) unseen 2 (due ∷ []))
     (post (station (one ∷ two ∷ []) 2 two_flushed [] [] 2) unseen 2 (due ∷ []))
-    (Then (Notes 0 one ∷ Shows ∷ Notes 0 two ∷ Shows ∷ Begins ∷ Sends 0 ∷ Sends 0 ∷ Pulls 0 ∷ Pulls 0 ∷ Dues 0 ∷ [])
+    (Then (Notes 0 one ∷ Shows ∷ Notes 0 two ∷ Shows ∷ Begins ∷ Sends 0 ∷ Sends 0 ∷ Pulls 0 ∷ Pulls 0 ∷ Dues 0 0 ∷ [])
     (Calls 0 Puts) (post (station (one ∷ two ∷ []) 0 made [] [] 0) unseen 2 (due ∷ []))
     (post (station (one ∷ two ∷ []) 2 two_flushed [] [] 0) unseen 2 (due ∷ []))
-    (Then (Notes 0 one ∷ Shows ∷ Notes 0 two ∷ Shows ∷ Begins ∷ Sends 0 ∷ Sends 0 ∷ Pulls 0 ∷ Pulls 0 ∷ []) (Dues 0)
-    (post (station (one ∷ two ∷ []) 0 made [] [] 0) unseen 2 (begun_at 2 ∷ []))
+    (Then (Notes 0 one ∷ Shows ∷ Notes 0 two ∷ Shows ∷ Begins ∷ Sends 0 ∷ Sends 0 ∷ Pulls 0 ∷ Pulls 0 ∷ []) (Dues 0 0)
+    (post (station (one ∷ two ∷ []) 0 made [] [] 0) unseen 2 (begun_at 2 1 ∷ []))
     (post (station (one ∷ two ∷ []) 0 made [] [] 0) unseen 2 (due ∷ []))
     (Then (Notes 0 one ∷ Shows ∷ Notes 0 two ∷ Shows ∷ Begins ∷ Sends 0 ∷ Sends 0 ∷ Pulls 0 ∷ []) (Pulls 0)
-    (post (station (one ∷ []) 0 made (two ∷ []) [] 0) unseen 2 (begun_at 2 ∷ []))
-    (post (station (one ∷ two ∷ []) 0 made [] [] 0) unseen 2 (begun_at 2 ∷ []))
+    (post (station (one ∷ []) 0 made (two ∷ []) [] 0) unseen 2 (begun_at 2 1 ∷ []))
+    (post (station (one ∷ two ∷ []) 0 made [] [] 0) unseen 2 (begun_at 2 1 ∷ []))
     (Then (Notes 0 one ∷ Shows ∷ Notes 0 two ∷ Shows ∷ Begins ∷ Sends 0 ∷ Sends 0 ∷ []) (Pulls 0)
-    (post (station [] 0 made (one ∷ two ∷ []) [] 0) unseen 2 (begun_at 2 ∷ []))
-    (post (station (one ∷ []) 0 made (two ∷ []) [] 0) unseen 2 (begun_at 2 ∷ []))
+    (post (station [] 0 made (one ∷ two ∷ []) [] 0) unseen 2 (begun_at 2 1 ∷ []))
+    (post (station (one ∷ []) 0 made (two ∷ []) [] 0) unseen 2 (begun_at 2 1 ∷ []))
     (Then (Notes 0 one ∷ Shows ∷ Notes 0 two ∷ Shows ∷ Begins ∷ Sends 0 ∷ []) (Sends 0)
-    (post (station [] 0 made (one ∷ []) (two ∷ []) 0) unseen 2 (begun_at 2 ∷ []))
-    (post (station [] 0 made (one ∷ two ∷ []) [] 0) unseen 2 (begun_at 2 ∷ []))
+    (post (station [] 0 made (one ∷ []) (two ∷ []) 0) unseen 2 (begun_at 2 1 ∷ []))
+    (post (station [] 0 made (one ∷ two ∷ []) [] 0) unseen 2 (begun_at 2 1 ∷ []))
     (Then (Notes 0 one ∷ Shows ∷ Notes 0 two ∷ Shows ∷ Begins ∷ []) (Sends 0)
-    (post (station [] 0 made [] (one ∷ two ∷ []) 0) unseen 2 (begun_at 2 ∷ []))
-    (post (station [] 0 made (one ∷ []) (two ∷ []) 0) unseen 2 (begun_at 2 ∷ []))
+    (post (station [] 0 made [] (one ∷ two ∷ []) 0) unseen 2 (begun_at 2 1 ∷ []))
+    (post (station [] 0 made (one ∷ []) (two ∷ []) 0) unseen 2 (begun_at 2 1 ∷ []))
     (Then (Notes 0 one ∷ Shows ∷ Notes 0 two ∷ Shows ∷ []) Begins
     (post (station [] 0 made [] (one ∷ two ∷ []) 0) unseen 2 [])
-    (post (station [] 0 made [] (one ∷ two ∷ []) 0) unseen 2 (begun_at 2 ∷ []))
+    (post (station [] 0 made [] (one ∷ two ∷ []) 0) unseen 2 (begun_at 2 1 ∷ []))
     (Then (Notes 0 one ∷ Shows ∷ Notes 0 two ∷ []) Shows
     (post (station [] 0 made [] (one ∷ two ∷ []) 0) unseen 1 [])
     (post (station [] 0 made [] (one ∷ two ∷ []) 0) unseen 2 [])
@@ -247,25 +248,25 @@ feeds =
     (Is_shown refl))
     (goes_by (post (station [] 0 made [] (one ∷ two ∷ []) 0) unseen 2 []) Begins (λ rank note is. cc) (λ is. cc))
     (Is_begun refl))
-    (goes_by (post (station [] 0 made [] (one ∷ two ∷ []) 0) unseen 2 (begun_at 2 ∷ [])) (Sends 0)
+    (goes_by (post (station [] 0 made [] (one ∷ two ∷ []) 0) unseen 2 (begun_at 2 1 ∷ [])) (Sends 0)
     (λ rank note is. cc) (λ is. cc))
     (At_station (Sends 0) 0 (station [] 0 made [] (one ∷ two ∷ []) 0) (station [] 0 made (one ∷ []) (two ∷ []) 0)
     refl (Is_sent 0 one (two ∷ []) refl)))
-    (goes_by (post (station [] 0 made (one ∷ []) (two ∷ []) 0) unseen 2 (begun_at 2 ∷ [])) (Sends 0)
+    (goes_by (post (station [] 0 made (one ∷ []) (two ∷ []) 0) unseen 2 (begun_at 2 1 ∷ [])) (Sends 0)
     (λ rank note is. cc) (λ is. cc))
     (At_station (Sends 0) 0 (station [] 0 made (one ∷ []) (two ∷ []) 0) (station [] 0 made (one ∷ two ∷ []) [] 0)
     refl (Is_sent 0 two [] refl)))
-    (goes_by (post (station [] 0 made (one ∷ two ∷ []) [] 0) unseen 2 (begun_at 2 ∷ [])) (Pulls 0)
+    (goes_by (post (station [] 0 made (one ∷ two ∷ []) [] 0) unseen 2 (begun_at 2 1 ∷ [])) (Pulls 0)
     (λ rank note is. cc) (λ is. cc))
     (At_station (Pulls 0) 0 (station [] 0 made (one ∷ two ∷ []) [] 0) (station (one ∷ []) 0 made (two ∷ []) [] 0)
     refl (Is_pulled 0 one (two ∷ []) refl refl)))
-    (goes_by (post (station (one ∷ []) 0 made (two ∷ []) [] 0) unseen 2 (begun_at 2 ∷ [])) (Pulls 0)
+    (goes_by (post (station (one ∷ []) 0 made (two ∷ []) [] 0) unseen 2 (begun_at 2 1 ∷ [])) (Pulls 0)
     (λ rank note is. cc) (λ is. cc))
     (At_station (Pulls 0) 0 (station (one ∷ []) 0 made (two ∷ []) [] 0) (station (one ∷ two ∷ []) 0 made [] [] 0)
     refl (Is_pulled 0 two [] refl refl)))
-    (goes_by (post (station (one ∷ two ∷ []) 0 made [] [] 0) unseen 2 (begun_at 2 ∷ [])) (Dues 0)
+    (goes_by (post (station (one ∷ two ∷ []) 0 made [] [] 0) unseen 2 (begun_at 2 1 ∷ [])) (Dues 0 0)
     (λ rank note is. cc) (λ is. cc))
-    (Is_due 0 (begun_at 2) (station (one ∷ two ∷ []) 0 made [] [] 0) refl refl))
+    (Is_due 0 0 (begun_at 2 1) (station (one ∷ two ∷ []) 0 made [] [] 0) refl refl))
     (goes_by (post (station (one ∷ two ∷ []) 0 made [] [] 0) unseen 2 (due ∷ [])) (Calls 0 Puts)
     (λ rank note is. cc) (λ is. cc))
     (At_station (Calls 0 Puts) 0 (station (one ∷ two ∷ []) 0 made [] [] 0)
@@ -276,12 +277,12 @@ feeds =
     (λ rank note is. cc) (λ is. cc))
     (At_station (Learns 0 2) 0 (station (one ∷ two ∷ []) 2 two_flushed [] [] 0)
     (station (one ∷ two ∷ []) 2 two_flushed [] [] 2) refl (Is_learnt 0 2 refl (omega arith))))
-    (goes_by (post (station (one ∷ two ∷ []) 2 two_flushed [] [] 2) unseen 2 (due ∷ [])) (Counts 0)
+    (goes_by (post (station (one ∷ two ∷ []) 2 two_flushed [] [] 2) unseen 2 (due ∷ [])) (Counts 0 0)
     (λ rank note is. cc) (λ is. cc))
-    (Is_counted 0 2 due (station (one ∷ two ∷ []) 2 two_flushed [] [] 2) refl refl refl (omega arith)))
+    (Is_counted 0 0 2 due (station (one ∷ two ∷ []) 2 two_flushed [] [] 2) refl refl refl (omega arith)))
     (goes_by (post (station (one ∷ two ∷ []) 2 two_flushed [] [] 2) unseen 2 (counted ∷ [])) (Seals 0)
     (λ rank note is. cc) (λ is. cc))
-    (Is_sealed 0 counted refl (omega arith) refl (omega arith, omega arith)))
+    (Is_sealed 0 counted refl (refl, tt) refl (omega arith, omega arith)))
     (goes_by (post (station (one ∷ two ∷ []) 2 two_flushed [] [] 2) noted 2 (counted ∷ [])) (Calls_intake Puts)
     (λ rank note is. cc) (λ is. cc))
     (Is_called_at_intake Puts acknowledged (Is_put acknowledged seen_put))
@@ -318,4 +319,4 @@ both_are_owed =
 by_receipt : OwesUpTo funnel ends 2
 by_receipt =
     receipts_owed funnel (post (station [] 0 made [] [] 0) unseen 0 []) ends run made_empty feeds 0 counted refl
-    (omega arith)
+    (refl, tt)

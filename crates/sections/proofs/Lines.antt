@@ -7,10 +7,11 @@ use Rattle.ledger_core.specs.declared.note.Note.TheVariants.{Owe}
 use Rattle.recovery.specs.Leaving.{IsPrefix}
 use Rattle.recovery.specs.LeavingLaws.{EachLedger-weaker, each_may}
 use Rattle.sections.specs.Laws.{LinesAreAcknowledged, LinesAreKept, OverRuns, SealedLinesAreAcknowledged}
-use Rattle.sections.specs.ListLaws.{all_at, drop_at, get_first, get_once, get_within, zip_get}
+use Rattle.sections.specs.ListLaws.{all_at, drop_at, get_first, get_once, zip_get}
 use Rattle.sections.specs.Post.{PostPast, StationPast, notes_of}
 use Rattle.sections.specs.Sound.{HasAcknowledged, IsSafe, IsSound, IsSoundStation, KeepsLines}
 use Rattle.sections.specs.Tapes.{IsAbove, IsRecovered, OwesOrEnded}
+use Rattle.sections.proofs.AtStations.{all_counted}
 use Rattle.sections.proofs.OverRuns.{recover_all}
 
 -- a note of a line whose number is not above a mark is acknowledged, if all that lines up to the mark made is
@@ -35,7 +36,8 @@ pub sealed_stand : (post : PostPast) → IsSound post → SealedLinesAreAcknowle
 sealed_stand post sound index rank place number sealing station token id is all below here noted =
     let one = all_at _ post.sealings index sealing sound.sealings is in
     below_kept sealing.number place number station token id
-    ((one.seen rank station here).counted (omega (arith, get_within post.stations rank station here, all))) below noted
+    (all_at (HasAcknowledged sealing.number) post.stations rank station
+    (all_counted sealing.number sealing.progress post.stations all one.known) here) below noted
 
 pub lines_are_kept : OverRuns LinesAreKept
 lines_are_kept begun later sections sound safe runs rank index number was now token id line here there noted =

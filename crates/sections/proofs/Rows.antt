@@ -1,6 +1,6 @@
 -- Worked runs, computed: of a post of one station whose tapes are empty, none of whose sections writes to a disk; and a
--- receipt that has counted a station.
-use Rattle.std.proofs.Common.{◌≡◌, ◌+◌, ◌<◌, ℕ, zero, suc, true, false, None, Some, [], ◌∷◌, refl}
+-- receipts that have counted their stations.
+use Rattle.std.proofs.Common.{◌≡◌, ◌+◌, ◌<◌, ℕ, zero, suc, true, false, Some, [], ◌∷◌, refl}
 use Rattle.std.proofs.Common.{List, sym, ap, subst, arith}
 use Rattle.std.specs.Prelude.{codes}
 use Rattle.std.specs.List.{slice_get}
@@ -15,15 +15,16 @@ use Rattle.recovery.specs.Pairs.LeavesPair.{at_start}
 use Rattle.sections.specs.Funnel.{Feeds, Funnel, HasTaken, IsEmpty, IsFed, IsFedNote, Names}
 use Rattle.sections.specs.Funnel.Feeds.{Begin, Then}
 use Rattle.sections.specs.Laws.{AllAreRecovered, IsBegun}
-use Rattle.sections.specs.Post.{PostPast, SealingPast, StationPast, with_station}
-use Rattle.sections.specs.Sections.{IsReopened, IsStopped, Lost_power, Runs, Section, begun_at, opened}
+use Rattle.sections.specs.Post.{PostPast, Progress, SealingPast, StationPast, with_station}
+use Rattle.sections.specs.Post.Progress.{Counted, Due, Waits}
+use Rattle.sections.specs.Sections.{HasCountedAll, IsReopened, IsStopped, Lost_power, Runs, Section, begun_at, opened}
 use Rattle.sections.specs.Sections.Does.{At_station, Intake_is_opened, Is_begun, Is_counted, Is_due}
 use Rattle.sections.specs.Sections.Does.{Is_shown, Is_stopped, Was_sealed}
 use Rattle.sections.specs.Sections.OfStation.{Is_noted, Is_opened, Is_pulled, Is_sent}
 use Rattle.sections.specs.Sections.Runs.{Next, Start}
 use Rattle.sections.specs.Sections.Section.{Begins, Counts, Dues, Notes, Opens, Opens_intake, Pulls}
 use Rattle.sections.specs.Sections.Section.{Seals, Sends, Shows, Stops}
-use Rattle.sections.specs.Sound.{HasSeen, IsSafe, IsSound}
+use Rattle.sections.specs.Sound.{IsSafe, IsSound}
 use Rattle.sections.specs.TapeLaws.{no_notes, nothing_left, nothing_lies}
 use Rattle.sections.specs.Tapes.{IsAcknowledgedBy, TapePast}
 use Rattle.sections.proofs.Lines.{sealed_stand}
@@ -52,20 +53,20 @@ line = Owe 1 (codes "a/1") (codes "<x@y>")
 
 -- the receipt of the flush, which has counted the station
 abbrev receipt : SealingPast
-receipt = record { number = 0; counted = 1; due = None }
+receipt = record { number = 0; progress = Counted ∷ [] }
 
 abbrev sealed : PostPast
 sealed = record made { sealings = receipt ∷ [] }
 
-sealed_run : Runs made (Begins ∷ Dues 0 ∷ Counts 0 ∷ Seals 0 ∷ []) sealed
+sealed_run : Runs made (Begins ∷ Dues 0 0 ∷ Counts 0 0 ∷ Seals 0 ∷ []) sealed
 sealed_run =
-    Next (Begins ∷ Dues 0 ∷ Counts 0 ∷ []) (Seals 0) sealed sealed
-    (Next (Begins ∷ Dues 0 ∷ []) (Counts 0) _ sealed
-    (Next (Begins ∷ []) (Dues 0) _ _
+    Next (Begins ∷ Dues 0 0 ∷ Counts 0 0 ∷ []) (Seals 0) sealed sealed
+    (Next (Begins ∷ Dues 0 0 ∷ []) (Counts 0 0) _ sealed
+    (Next (Begins ∷ []) (Dues 0 0) _ _
     (Next [] Begins made _ Start (Is_begun refl))
-    (Is_due 0 (begun_at 0) (opened tape) refl refl))
-    (Is_counted 0 0 (record { number = 0; counted = 0; due = Some 0 }) (opened tape) refl refl refl (omega arith)))
-    (Was_sealed 0 receipt refl (omega arith) (omega arith))
+    (Is_due 0 0 (begun_at 0 1) (opened tape) refl refl))
+    (Is_counted 0 0 0 (record { number = 0; progress = Due 0 ∷ [] }) (opened tape) refl refl refl (omega arith)))
+    (Was_sealed 0 receipt refl (refl, tt) (omega arith))
 
 -- the line's note at the front, in the queue, and on the tape
 abbrev front : StationPast
@@ -192,7 +193,7 @@ counted = record {
   intake = tape;
   intake_runs = true;
   last = 5;
-  sealings = record { number = 5; counted = 1; due = None } ∷ [];
+  sealings = record { number = 5; progress = Counted ∷ [] } ∷ [];
 }
 
 counted_sound : IsSound counted
@@ -202,22 +203,43 @@ counted_sound = record {
   within = omega arith;
   marked = omega arith;
   acknowledged = (tt, tt);
-  sealings = (record { below = omega arith; seen = seen }, tt);
+  sealings = (record { below = omega arith; known = (tt, tt) }, tt);
 }
-  where
-    seen : (rank : ℕ) (station : StationPast)
-        → slice_get (kept_station ∷ []) rank ≡ Some station
-        → HasSeen (record { number = 5; counted = 1; due = None }) rank station
-    seen zero station here =
-        let is : kept_station ≡ station = cc in
-        subst (HasSeen (record { number = 5; counted = 1; due = None }) 0) is
-        (record { counted = λ before. tt; due = λ next count is. absurd cc })
-    seen (suc rank) station here = absurd cc
 
 line_stands : 0 < 1
 line_stands =
-    sealed_stand counted counted_sound 0 0 0 1 (record { number = 5; counted = 1; due = None }) kept_station
-    (codes "a/1") (codes "<x@y>") refl (omega arith) (omega arith) refl refl
+    sealed_stand counted counted_sound 0 0 0 1 (record { number = 5; progress = Counted ∷ [] }) kept_station
+    (codes "a/1") (codes "<x@y>") refl (refl, tt) (omega arith) refl refl
+
+-- ---- a receipt looks at two stations, the second first, and counts them
+
+abbrev two : PostPast
+two = record made { stations = opened tape ∷ opened tape ∷ [] }
+
+abbrev receipt_of : List Progress → SealingPast
+receipt_of progress = record { number = 0; progress = progress }
+
+abbrev two_at : List Progress → PostPast
+two_at progress = record two { sealings = receipt_of progress ∷ [] }
+
+two_run : Runs two (Begins ∷ Dues 0 1 ∷ Dues 0 0 ∷ Counts 0 1 ∷ Counts 0 0 ∷ Seals 0 ∷ [])
+    (two_at (Counted ∷ Counted ∷ []))
+two_run =
+    Next (Begins ∷ Dues 0 1 ∷ Dues 0 0 ∷ Counts 0 1 ∷ Counts 0 0 ∷ []) (Seals 0) (two_at (Counted ∷ Counted ∷ [])) _
+    (Next (Begins ∷ Dues 0 1 ∷ Dues 0 0 ∷ Counts 0 1 ∷ []) (Counts 0 0) (two_at (Due 0 ∷ Counted ∷ [])) _
+    (Next (Begins ∷ Dues 0 1 ∷ Dues 0 0 ∷ []) (Counts 0 1) (two_at (Due 0 ∷ Due 0 ∷ [])) _
+    (Next (Begins ∷ Dues 0 1 ∷ []) (Dues 0 0) (two_at (Waits ∷ Due 0 ∷ [])) _
+    (Next (Begins ∷ []) (Dues 0 1) (two_at (Waits ∷ Waits ∷ [])) _
+    (Next [] Begins two _ Start (Is_begun refl))
+    (Is_due 0 1 (begun_at 0 2) (opened tape) refl refl))
+    (Is_due 0 0 (receipt_of (Waits ∷ Due 0 ∷ [])) (opened tape) refl refl))
+    (Is_counted 0 1 0 (receipt_of (Due 0 ∷ Due 0 ∷ [])) (opened tape) refl refl refl (omega arith)))
+    (Is_counted 0 0 0 (receipt_of (Due 0 ∷ Counted ∷ [])) (opened tape) refl refl refl (omega arith)))
+    (Was_sealed 0 (receipt_of (Counted ∷ Counted ∷ [])) refl (refl, (refl, tt)) (omega arith))
+
+-- while the first is not counted, the receipt has not counted all
+not_all : HasCountedAll (receipt_of (Due 0 ∷ Counted ∷ [])) → ⊥
+not_all all = let is : Due 0 ≡ Counted = all.0 in cc
 
 -- ---- the same line, of a funnel whose every line names the peer: it is taken, and again after a stop that loses it
 

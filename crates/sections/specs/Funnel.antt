@@ -1,6 +1,6 @@
 -- Runs of the threads over the lines of a funnel (profile): which line names which peers, and what each section does
 -- with it. The lines may be read again after a stop: the funnel gives the same line for the same number.
-use Rattle.std.specs.Prelude.{◌≡◌, ◌+◌, ◌<◌, ◌≤◌, ℕ, true, Some, List, [], ◌∷◌, ◌++◌, length, take}
+use Rattle.std.specs.Prelude.{◌≡◌, ◌+◌, ◌<◌, ◌≤◌, ℕ, true, Some, List, [], ◌∷◌, ◌++◌, take}
 use Rattle.std.specs.Prelude.{slice_get, Contains}
 use Rattle.std.specs.List.{AllByRecursion}
 use Rattle.ledger_core.specs.declared.note.Note.{Note}
@@ -11,7 +11,7 @@ use Rattle.recovery.specs.Leaving.{EachLedger, IsPrefix, mark_of}
 use Rattle.recovery.specs.Notes.{begun as no_history}
 use Rattle.sections.specs.Laws.{IsBegun, LeavesOver}
 use Rattle.sections.specs.Post.{PostPast, SealingPast, StationPast, front_history}
-use Rattle.sections.specs.Sections.{Does, Section}
+use Rattle.sections.specs.Sections.{Does, HasCountedAll, Section}
 use Rattle.sections.specs.Sections.Section.{Notes, Shows}
 use Rattle.sections.specs.Tapes.{OwesOrEnded}
 
@@ -107,4 +107,4 @@ FunnelIsOwedWithin funnel post = (later : PostPast) (section : Section) → Does
 -- the number of a receipt that has counted every station
 abbrev pub ReceiptsAreOwed : Funnel → PostPast → Type 0
 ReceiptsAreOwed funnel post = (index : ℕ) (sealing : SealingPast) → slice_get post.sealings index ≡ Some sealing
-    → length post.stations ≤ sealing.counted → OwesUpTo funnel post sealing.number
+    → HasCountedAll sealing → OwesUpTo funnel post sealing.number

@@ -6,7 +6,7 @@ use Rattle.ledger_core.specs.declared.note.Note.TheVariants.{Owe}
 use Rattle.recovery.specs.Image.{Log}
 use Rattle.recovery.specs.Leaving.{EachLedger, IsPrefix, LedgersLeave}
 use Rattle.sections.specs.Post.{PostPast, SealingPast, StationPast, notes_of}
-use Rattle.sections.specs.Sections.{Does, Runs, Section, WasLeft, opened}
+use Rattle.sections.specs.Sections.{Does, HasCountedAll, Runs, Section, WasLeft, opened}
 use Rattle.sections.specs.Sound.{IsSafe, IsSound, KeepsLines, KeepsNotes}
 use Rattle.sections.specs.Tapes.{IsAcknowledgedBy, IsRecovered, OwesOrEnded, StaysAcknowledged, StillOwes, mark_at}
 
@@ -71,7 +71,7 @@ LinesAreAcknowledged post = (rank index number : ℕ) (station : StationPast) (t
 -- a sealing that has counted every station: so is each note that a line up to its number made
 abbrev pub SealedLinesAreAcknowledged : PostPast → Type 0
 SealedLinesAreAcknowledged post = (index rank place number : ℕ) (sealing : SealingPast) (station : StationPast)
-    (token id : List ℕ) → slice_get post.sealings index ≡ Some sealing → length post.stations ≤ sealing.counted
+    (token id : List ℕ) → slice_get post.sealings index ≡ Some sealing → HasCountedAll sealing
     → number ≤ sealing.number
     → slice_get post.stations rank ≡ Some station → slice_get (notes_of station) place ≡ Some (Owe number token id)
     → place < station.tape.history.kept

@@ -197,6 +197,30 @@ module _ {A B : Type 0} (R : A → B → Type 0) where
   zip_get (a ∷ xs) (b ∷ ys) zero y all here = let same : b ≡ y = cc in (a, refl, subst (R a) same all.0)
   zip_get (a ∷ xs) (b ∷ ys) (suc k) y all here = zip_get xs ys k y all.1 here
 
+  -- two elements at the same place
+  pub zip_at : (xs : List A) (ys : List B) (k : ℕ) (x : A) (y : B) → AllZip R xs ys → slice_get xs k ≡ Some x
+      → slice_get ys k ≡ Some y → R x y
+  zip_at xs ys k x y all here there =
+      let one = zip_get xs ys k y all there in
+      subst (λ a. R a y) (get_once xs k x one.0 here one.1) one.2
+
+  -- an element is replaced, of the first list or of the second
+  pub zip_set_first : (xs : List A) (ys : List B) (k : ℕ) (x : A) → AllZip R xs ys
+      → ((y : B) → slice_get ys k ≡ Some y → R x y) → AllZip R (set xs k x) ys
+  zip_set_first [] [] k x all each = tt
+  zip_set_first [] (b ∷ ys) k x all each = absurd all
+  zip_set_first (a ∷ xs) [] k x all each = absurd all
+  zip_set_first (a ∷ xs) (b ∷ ys) zero x all each = (each b refl, all.1)
+  zip_set_first (a ∷ xs) (b ∷ ys) (suc k) x all each = (all.0, zip_set_first xs ys k x all.1 each)
+
+  pub zip_set_second : (xs : List A) (ys : List B) (k : ℕ) (y : B) → AllZip R xs ys
+      → ((x : A) → slice_get xs k ≡ Some x → R x y) → AllZip R xs (set ys k y)
+  zip_set_second [] [] k y all each = tt
+  zip_set_second [] (b ∷ ys) k y all each = absurd all
+  zip_set_second (a ∷ xs) [] k y all each = absurd all
+  zip_set_second (a ∷ xs) (b ∷ ys) zero y all each = (each a refl, all.1)
+  zip_set_second (a ∷ xs) (b ∷ ys) (suc k) y all each = (all.0, zip_set_second xs ys k y all.1 each)
+
   -- a weaker relation
   pub zip_weaker : (Q : A → B → Type 0) → ((x : A) (y : B) → R x y → Q x y)
       → (xs : List A) (ys : List B) → AllZip R xs ys → AllZip Q xs ys

@@ -1,5 +1,5 @@
 -- What a post has been through (profile): its state between two sections, which nothing stores.
-use Rattle.std.specs.Prelude.{ℕ, Bool, Option, List, ◌++◌, slice_set}
+use Rattle.std.specs.Prelude.{ℕ, Bool, List, ◌++◌, slice_set}
 use Rattle.ledger_core.specs.declared.note.Note.{Note}
 use Rattle.recovery.specs.Notes.{History}
 use Rattle.sections.specs.Tapes.{TapePast}
@@ -16,12 +16,16 @@ pub record StationPast : Type 0 where
   pub cut_off : Bool
   pub runs : Bool
 
--- A receipt that is being made: its number; how many stations are counted, from the first on; and, once it has looked
--- at the front of the next one, how many notes it found there.
+-- what a receipt knows of a station
+pub data Progress : Type 0 where
+  Waits : Progress  -- nothing yet
+  Due : (count : ℕ) → Progress  -- it found so many notes at the station's front
+  Counted : Progress  -- as many as it found there are settled
+
+-- A receipt that is being made: its number; and what it knows of each station, by the stations' ranks.
 pub record SealingPast : Type 0 where
   pub number : ℕ
-  pub counted : ℕ
-  pub due : Option ℕ
+  pub progress : List Progress
 
 -- All stations, in byte order of their peers' names; the intake's tape, and whether it runs; the number that was shown
 -- last; and all sealings, in the order in which they began.
@@ -55,3 +59,7 @@ with_intake post tape = record post { intake = tape }
 -- the sealing at this place is replaced
 abbrev pub with_sealing : PostPast → ℕ → SealingPast → PostPast
 with_sealing post id sealing = record post { sealings = slice_set post.sealings id sealing }
+
+-- what the sealing knows of the station at this rank is replaced
+abbrev pub with_progress : SealingPast → ℕ → Progress → SealingPast
+with_progress sealing rank one = record sealing { progress = slice_set sealing.progress rank one }

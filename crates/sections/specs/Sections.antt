@@ -1,8 +1,8 @@
 -- The sections of a run of the threads: what is done under one lock, or by one atomic step of a queue or of the number
 -- that is shown. Each later state is an equation, so that all else stays.
-use Rattle.std.specs.Prelude.{◌≡◌, ◌+◌, ◌≤◌, ℕ, true, false, max, Bool, Some, None, List, [], ◌∷◌, ◌++◌, length}
-use Rattle.std.specs.Prelude.{slice_get}
-use Rattle.std.specs.List.{AllZip}
+use Rattle.std.specs.Prelude.{◌≡◌, ◌+◌, ◌≤◌, ℕ, true, false, max, Bool, Some, List, [], ◌∷◌, ◌++◌, length}
+use Rattle.std.specs.Prelude.{replicate, slice_get}
+use Rattle.std.specs.List.{AllByRecursion, AllZip}
 use Rattle.disk_model.specs.Disk.{Event, Image}
 use Rattle.disk_model.specs.Disk.Event.{Made}
 use Rattle.ledger_core.specs.declared.note.Note.{Note}
@@ -12,8 +12,9 @@ use Rattle.recovery.specs.Image.{Log}
 use Rattle.recovery.specs.Leaving.{EachLedger, IsPrefix, LedgersLeave, LiesOn}
 use Rattle.recovery.specs.Notes.{flushed, noted, recovered}
 use Rattle.sections.specs.Tapes.{Breaks as BreaksTape, IsAbove, IsReadTape, TapePast, ledger_at, mark_at}
-use Rattle.sections.specs.Post.{PostPast, SealingPast, StationPast, notes_of, with_intake, with_sealing, with_station}
-use Rattle.sections.specs.Post.{with_tape}
+use Rattle.sections.specs.Post.{PostPast, Progress, SealingPast, StationPast, notes_of, with_intake, with_progress}
+use Rattle.sections.specs.Post.{with_sealing, with_station, with_tape}
+use Rattle.sections.specs.Post.Progress.{Counted, Due, Waits}
 
 -- what is done to a tape under its lock
 pub data Call : Type 0 where
@@ -31,8 +32,8 @@ pub data Section : Type 0 where
   Learns : (rank count : ℕ) → Section  -- a front's lock: so many notes are on the disks
   Cuts_off : (rank : ℕ) → Section  -- a front's lock: its tape broke
   Begins : Section  -- the number: a flush of all begins, and reads it
-  Dues : (id : ℕ) → Section  -- a front's lock: how much is noted there
-  Counts : (id : ℕ) → Section  -- a front's lock: so much is settled there
+  Dues : (id rank : ℕ) → Section  -- a front's lock: how much is noted there
+  Counts : (id rank : ℕ) → Section  -- a front's lock: so much is settled there
   Seals : (id : ℕ) → Section  -- the intake's lock: the sealing's number is noted
   Calls_intake : (call : Call) → Section  -- the intake's lock
   Stops : Section  -- the machine stops, or the process ends
@@ -133,13 +134,13 @@ pub data OfStation (last : ℕ) (was : StationPast) : Section → ℕ → Statio
 
 -- ---- at a post
 
--- a sealing that begins while this number is shown
-abbrev pub begun_at : ℕ → SealingPast
-begun_at number = record { number = number; counted = 0; due = None }
+-- a sealing that begins while this number is shown, of as many stations as this
+abbrev pub begun_at : ℕ → ℕ → SealingPast
+begun_at number count = record { number = number; progress = replicate count Waits }
 
--- one station more is counted
-abbrev pub counted_on : SealingPast → SealingPast
-counted_on sealing = record { number = sealing.number; counted = sealing.counted + 1; due = None }
+-- each station is counted
+abbrev pub HasCountedAll : SealingPast → Type 0
+HasCountedAll sealing = AllByRecursion (λ (one : Progress). one ≡ Counted) sealing.progress
 
 -- the intake's tape, on which this number is noted
 abbrev pub seen : ℕ → TapePast → TapePast
@@ -150,21 +151,22 @@ pub data Does (past : PostPast) : Section → PostPast → Type 0 where
       → OfStation past.last was section rank now → Does past section (with_station past rank now)
   Is_shown : past.intake_runs ≡ true → Does past Shows (record past { last = past.last + 1 })
   Is_begun : past.intake_runs ≡ true
-      → Does past Begins (record past { sealings = past.sealings ++ begun_at past.last ∷ [] })
-  Is_due : (id : ℕ) (sealing : SealingPast) (station : StationPast) → slice_get past.sealings id ≡ Some sealing
-      → slice_get past.stations sealing.counted ≡ Some station
-      → Does past (Dues id) (with_sealing past id (record sealing { due = Some (length (notes_of station)) }))
-  Is_counted : (id count : ℕ) (sealing : SealingPast) (station : StationPast)
-      → slice_get past.sealings id ≡ Some sealing
-      → slice_get past.stations sealing.counted ≡ Some station → sealing.due ≡ Some count → count ≤ station.settled
-      → Does past (Counts id) (with_sealing past id (counted_on sealing))
-  Is_sealed : (id : ℕ) (sealing : SealingPast) → slice_get past.sealings id ≡ Some sealing
-      → length past.stations ≤ sealing.counted → past.intake.broken ≡ false
+      → Does past Begins (record past { sealings = past.sealings ++ begun_at past.last (length past.stations) ∷ [] })
+  Is_due : (id rank : ℕ) (sealing : SealingPast) (station : StationPast) → slice_get past.sealings id ≡ Some sealing
+      → slice_get past.stations rank ≡ Some station
+      → Does past (Dues id rank)
+      (with_sealing past id (with_progress sealing rank (Due (length (notes_of station)))))
+  Is_counted : (id rank count : ℕ) (sealing : SealingPast) (station : StationPast)
+      → slice_get past.sealings id ≡ Some sealing → slice_get past.stations rank ≡ Some station
+      → slice_get sealing.progress rank ≡ Some (Due count) → count ≤ station.settled
+      → Does past (Counts id rank) (with_sealing past id (with_progress sealing rank Counted))
+  Is_sealed : (id : ℕ) (sealing : SealingPast) → slice_get past.sealings id ≡ Some sealing → HasCountedAll sealing
+      → past.intake.broken ≡ false
       → IsLegal (ledger_at past.intake) (Seen sealing.number)
       → Does past (Seals id) (with_intake past (seen sealing.number past.intake))
   -- a number that is not above the mark is not noted again
-  Was_sealed : (id : ℕ) (sealing : SealingPast) → slice_get past.sealings id ≡ Some sealing
-      → length past.stations ≤ sealing.counted → sealing.number ≤ mark_at past.intake
+  Was_sealed : (id : ℕ) (sealing : SealingPast) → slice_get past.sealings id ≡ Some sealing → HasCountedAll sealing
+      → sealing.number ≤ mark_at past.intake
       → Does past (Seals id) past
   Is_called_at_intake : (call : Call) (tape : TapePast) → OfTape past.intake past.intake_runs call tape
       → Does past (Calls_intake call) (with_intake past tape)

@@ -1,9 +1,10 @@
 -- What holds of a post between any two sections.
-use Rattle.std.specs.Prelude.{◌≡◌, ◌<◌, ◌≤◌, ℕ, Some, List, drop, length, slice_get}
-use Rattle.std.specs.List.{AllByRecursion}
+use Rattle.std.specs.Prelude.{◌≤◌, ℕ, List, drop, length}
+use Rattle.std.specs.List.{AllByRecursion, AllZip}
 use Rattle.ledger_core.specs.State.{AllLegal, State}
 use Rattle.recovery.specs.Leaving.{EachLedger, IsPrefix}
-use Rattle.sections.specs.Post.{PostPast, SealingPast, StationPast, front_history, notes_of}
+use Rattle.sections.specs.Post.{PostPast, Progress, SealingPast, StationPast, front_history, notes_of}
+use Rattle.sections.specs.Post.Progress.{Counted, Due, Waits}
 use Rattle.sections.specs.Tapes.{AllAbove, KeepsLinesOf, PendsAbove, mark_at}
 
 -- each note that a line up to this number made is acknowledged: none pends on the tape, in the queue or at the front
@@ -14,17 +15,17 @@ pub record IsSoundStation (station : StationPast) : Type 0 where
   pub within : station.tape.history.kept ≤ length station.tape.history.notes
   pub settled : station.settled ≤ station.tape.history.kept
 
--- What a sealing knows of the station at this rank. If the station is counted, all that lines up to the sealing's
--- number made there is acknowledged. If it is the next one, and the sealing has looked at its front, no note behind
--- those that were found there was made by such a line.
-pub record HasSeen (sealing : SealingPast) (rank : ℕ) (station : StationPast) : Type 0 where
-  pub counted : rank < sealing.counted → HasAcknowledged sealing.number station
-  pub due : rank ≡ sealing.counted → (count : ℕ) → sealing.due ≡ Some count
-      → AllAbove sealing.number (drop count (notes_of station))
+-- What a sealing of this number knows is so. If it has looked at the station's front, no note behind those that it
+-- found there was made by a line up to its number. If the station is counted, all that such lines made is acknowledged.
+abbrev pub IsKnown : ℕ → Progress → StationPast → Type 0
+IsKnown number Waits station = Unit {0}
+IsKnown number (Due count) station = AllAbove number (drop count (notes_of station))
+IsKnown number Counted station = HasAcknowledged number station
 
+-- its number is not above the last; and all that it knows of each station is so
 pub record IsSoundSealing (stations : List StationPast) (last : ℕ) (sealing : SealingPast) : Type 0 where
   pub below : sealing.number ≤ last
-  pub seen : (rank : ℕ) (station : StationPast) → slice_get stations rank ≡ Some station → HasSeen sealing rank station
+  pub known : AllZip (IsKnown sealing.number) sealing.progress stations
 
 -- The marks and numbers are in order; and what the intake's tape has noted, or a sealing has counted, is acknowledged
 -- at the stations.
