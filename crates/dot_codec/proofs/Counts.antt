@@ -1,36 +1,9 @@
--- Loops over the lines of a text and over the forms of a block.
+-- Loops over the forms of a block.
 use Rattle.std.proofs.Common.{◌≡◌, ℕ, ◌+◌, ◌-◌, ◌<◌, ◌≤◌, List, [], ◌∷◌, ◌++◌, length, refl, sym, ◌∙◌, ap, subst, inl, inr, arith, append_assoc, length-append, take}
 use Rattle.std.proofs.lemmas.List.{append-nil, take_at}
-use Rattle.dot_codec.specs.Lines.{IsLine, IsFirstLine, HasLines, text_of}
-use Rattle.dot_codec.specs.Block.{stuffed, written, end_of_block, IsLineForm, HasForms, IsReadForm}
-use Rattle.dot_codec.specs.TextLaws.{lines_behind, none_of_nothing}
+use Rattle.dot_codec.specs.Lines.{IsLine, text_of}
+use Rattle.dot_codec.specs.Block.{end_of_block, IsLineForm, HasForms, IsReadForm}
 use Rattle.dot_codec.proofs.Forms.{IsFinal, end_is_final, forms_once, forms_more, forms_behind, forms_follow, read_form_of}
-
--- the lines before the rest of a text are written
-abbrev pub Wrote : List ℕ → List ℕ → List ℕ → List ℕ → Type 0
-Wrote text rest old new = (lines : List (List ℕ)) → HasLines text lines → (more : List (List ℕ)) × HasLines rest more × (new ++ written more ≡ old ++ written lines)
-
-pub wrote_none : (text old : List ℕ) → Wrote text text old old
-wrote_none text old lines has = (lines, has, refl)
-
-pub wrote_more : (text rest line next old new newer : List ℕ) → Wrote text rest old new → ((more : List (List ℕ)) → HasLines rest more → IsFirstLine rest line next) → newer ≡ new ++ (stuffed line ++ 13 ∷ 10 ∷ []) → Wrote text next old newer
-wrote_more text rest line next old new newer so_far first is lines has =
-    let before = so_far lines has in
-    let behind = lines_behind rest line next before.0 (first before.0 before.1) before.1 in
-    let same : new ++ written before.0 ≡ new ++ (stuffed line ++ 13 ∷ 10 ∷ written behind.0) = ap (λ (l : List (List ℕ)). new ++ written l) behind.1 in (
-      behind.0,
-      behind.2,
-      ap (λ (l : List ℕ). l ++ written behind.0) is
-          ∙ (append_assoc new (stuffed line ++ 13 ∷ 10 ∷ []) (written behind.0)
-          ∙ (ap (λ (l : List ℕ). new ++ l) (append_assoc (stuffed line) (13 ∷ 10 ∷ []) (written behind.0))
-          ∙ (sym same ∙ before.2))),
-    )
-
-pub wrote_all : (text rest old new : List ℕ) → Wrote text rest old new → ((more : List (List ℕ)) → HasLines rest more → rest ≡ []) → (lines : List (List ℕ)) → HasLines text lines → new ++ end_of_block ≡ old ++ written lines
-wrote_all text rest old new so_far ends lines has =
-    let left = so_far lines has in
-    let none : left.0 ≡ [] = none_of_nothing left.0 (subst (λ (t : List ℕ). HasLines t left.0) (ends left.0 left.1) left.1) in
-    sym (ap (λ (l : List (List ℕ)). new ++ written l) none) ∙ left.2
 
 text_of-push : (lines : List (List ℕ)) (line : List ℕ) → text_of (lines ++ line ∷ []) ≡ text_of lines ++ (line ++ 10 ∷ [])
 text_of-push [] line = refl

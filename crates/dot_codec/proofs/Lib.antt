@@ -4,6 +4,7 @@ pub mod Forms
 pub mod Nexts
 pub mod Offsets
 pub mod Parts
+pub mod Puts
 mod Rows
 pub mod Runs
 pub mod Stops

@@ -18,4 +18,4 @@ mod write;
 pub use fault::{BlockFault, BlockRefusal};
 pub use read::from_block;
 pub use stored::stored_text;
-pub use write::{TEXT_MAX_OCTETS, is_sendable, to_block};
+pub use write::{TEXT_MAX_OCTETS, is_sendable, put_block, to_block};

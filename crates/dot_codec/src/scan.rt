@@ -1,10 +1,9 @@
 // The run of octets up to the next NUL, LF or CR.
-ghost use Rattle.std.specs.Prelude.{◌≡◌, ◌≤◌, ◌⊎◌, ◌++◌, ◌∷◌, [], ℕ, List, length, take};
-ghost use Rattle.std.specs.Prelude.{drop};
+ghost use Rattle.std.specs.Prelude.{◌≡◌, ◌≤◌, length, take, drop};
 ghost use Rattle.dot_codec.specs.Lines.{IsLine};
-ghost use Rattle.dot_codec.specs.Scan.{EndsRun, IsRun, IsStop};
+ghost use Rattle.dot_codec.specs.Scan.{EndsRun, IsRun, IsStop, ends_line};
 
-use memchr::{memchr, memchr2};
+use memchr::memchr3_iter;
 
 /// What ends a run of octets that a line may have.
 #[derive(Clone, Copy, Debug, PartialEq, Eq)]
@@ -15,6 +14,20 @@ pub(crate) enum RunEnd {
     CrLf,
     /// A CR without an LF after it.
     Cr,
+}
+
+// Whether a run that the stop ends is a line of a text.
+#[inline]
+pub(crate) fn ends_line(stop: RunEnd) -> bool
+    ensures { result ≡ ends_line stop }
+{
+    match stop {
+        RunEnd::End => true,
+        RunEnd::Nul => false,
+        RunEnd::Lf => true,
+        RunEnd::CrLf => true,
+        RunEnd::Cr => false,
+    }
 }
 
 /// A run of octets that a line may have, what ends it, and the rest after that.
@@ -46,28 +59,17 @@ pub(crate) fn first_run(octets: &[u8]) -> Run<'_>
     }
 }
 
-// The search for LF comes first, and one CR before it is taken off, because the search for two octets is slow only if
-// it finds one.
+// One search for all that a line may not have. The first step of an iterator is quick if what it looks for is near, as
+// the end of most lines is.
 #[inline]
 fn run_len(octets: &[u8]) -> usize
     ensures within { result ≤ length octets.now }
     ensures run { IsLine (take result octets.now) }
     ensures end { EndsRun (drop result octets.now) }
 {
-    let lf = memchr(b'\n', octets).unwrap_or(octets.len());
-    let line = without_cr(&octets[..lf]);
-    memchr2(b'\0', b'\r', line).unwrap_or(line.len())
-}
-
-#[inline]
-pub(crate) fn without_cr(line: &[u8]) -> &[u8]
-    ensures either { (line.now ≡ result.now) ⊎ (line.now ≡ result.now ++ 13 ∷ []) }
-    ensures cr { (prefix : List ℕ) → line.now ≡ prefix ++ 13 ∷ [] → result.now ≡ prefix }
-{
-    match line {
-        [prefix @ .., b'\r'] => prefix,
-        _ => line,
-    }
+    memchr3_iter(b'\0', b'\n', b'\r', octets)
+        .next()
+        .unwrap_or(octets.len())
 }
 
 // What ends a run here, and the rest after it.

@@ -1,14 +1,16 @@
 // The lines of a text, written as a block.
 ghost use Rattle.std.specs.Prelude.{◌≡◌, ◌<◌, ◌≤◌, ◌↔◌, ◌++◌, ◌∷◌, [], ℕ, List};
-ghost use Rattle.std.specs.Prelude.{length, drop, IfOk, IsOk, IsErrOf, OnOk, IsTrue};
+ghost use Rattle.std.specs.Prelude.{Ok, true, false};
+ghost use Rattle.std.specs.Prelude.{length, drop, IfOk, IsOk, IsErrOf, OnOk, OnErr, IsTrue, IfSome, IfNone};
 ghost use Rattle.dot_codec.specs.Lines.{HasLines, IsSendable, longest_text};
 ghost use Rattle.dot_codec.specs.Block.{begins_with_dot, stuffed, written};
+ghost use Rattle.dot_codec.specs.Put.{AreWritten, Extends};
 ghost use Rattle.dot_codec.specs.Scan.{begins_with_crlf};
 
 use crate::fault::BlockRefusal;
-use crate::scan::without_cr;
-use bytes::Bytes;
-use memchr::{memchr_iter, memchr2_iter};
+use crate::scan::{ends_line, first_run};
+use bytes::{Bytes, BytesMut};
+use memchr::memchr2_iter;
 use std::alloc::{AllocError, Global};
 
 /// The length of the longest text that can be sent, in octets (profile).
@@ -29,12 +31,56 @@ pub fn to_block(alloc: Global, text: &[u8]) -> Result<Bytes, BlockRefusal>
     ensures sendable { IsErrOf result BlockRefusal.NoMemory → IsSendable text.now }
     ensures sent { IsOk result → IsSendable text.now }
 {
-    if !is_sendable(text) {
-        return Err(BlockRefusal::Unsendable);
-    }
-    match block_of(alloc, text) {
+    let mut block = BytesMut::new(alloc);
+    put_block(&mut block, text, 0)?;
+    match block.freeze() {
         Ok(block) => Ok(block),
         Err(_) => Err(BlockRefusal::NoMemory),
+    }
+}
+
+/// Puts the block of a text, as [`to_block`] makes it, behind the octets of an output, and keeps room there for `spare`
+/// octets more. The lines go straight into the output, which is the only copy that is made of them.
+///
+/// # Errors
+/// As those of [`to_block`]; the output's octets stay, and it has no less room for more.
+pub fn put_block(output: &mut BytesMut, text: &[u8], spare: usize) -> Result<(), BlockRefusal>
+    ensures block { OnOk result
+        ((lines : List (List ℕ)) × HasLines text.now lines
+        × (output.new.items ≡ output.old.items ++ written lines)) }
+    ensures room { OnOk result (spare ≤ output.new.spare) }
+    ensures unsendable { IsErrOf result BlockRefusal.Unsendable ↔ (IsSendable text.now → ⊥) }
+    ensures sendable { IsErrOf result BlockRefusal.NoMemory → IsSendable text.now }
+    ensures sent { IsOk result → IsSendable text.now }
+    ensures unchanged { OnErr result (output.new.items ≡ output.old.items) }
+    ensures spare { OnErr result (output.old.spare ≤ output.new.spare) }
+{
+    if text.is_empty() || text.len() > TEXT_MAX_OCTETS {
+        return Err(BlockRefusal::Unsendable);
+    }
+    let len = output.len();
+    match put_lines_and_end(output, text, spare) {
+        Ok(true) => Ok(()),
+        Ok(false) => {
+            output.truncate(len);
+            Err(BlockRefusal::Unsendable)
+        }
+        Err(_) => {
+            output.truncate(len);
+            Err(without_memory(text))
+        }
+    }
+}
+
+// Why a text was not put out, if memory was refused.
+fn without_memory(text: &[u8]) -> BlockRefusal
+    ensures unsendable { result ≡ BlockRefusal.Unsendable ↔ (IsSendable text.now → ⊥) }
+    ensures sendable { result ≡ BlockRefusal.NoMemory → IsSendable text.now }
+{
+    if is_sendable(text) {
+        BlockRefusal::NoMemory
+    } else {
+        BlockRefusal::Unsendable
     }
 }
 
@@ -59,18 +105,22 @@ fn has_crlf_at(text: &[u8], at: usize) -> bool
     matches!(text.get(at..), Some([b'\r', b'\n', ..]))
 }
 
-fn block_of(alloc: Global, text: &[u8]) -> Result<Bytes, AllocError>
+// Puts out the block of a text that has lines. `false` if it has none: then, and after an error, some may be out.
+fn put_lines_and_end(output: &mut BytesMut, text: &[u8], spare: usize) -> Result<bool, AllocError>
     requires { length text.now ≤ longest_text }
-    ensures { IfOk result (λ b. (lines : List (List ℕ)) → HasLines text.now lines
-        → b ≡ written lines) }
+    ensures block { result ≡ Ok true → (lines : List (List ℕ)) × HasLines text.now lines
+        × (output.new.items ≡ output.old.items ++ written lines) }
+    ensures room { result ≡ Ok true → spare ≤ output.new.spare }
+    ensures none { result ≡ Ok false → (lines : List (List ℕ)) → HasLines text.now lines → ⊥ }
+    ensures extends { Extends output.old output.new }
 {
-    let mut block = Vec::with_capacity(alloc, likely_len(text))?;
-    put_lines(&mut block, text)?;
-    block.extend_from_slice(b".\r\n")?;
-    if block.capacity() - block.len() > block.len() / 8 {
-        block.shrink_to_fit();
+    output.reserve(likely_len(text))?;
+    if !put_lines(output, text)? {
+        return Ok(false);
     }
-    Ok(Bytes::from_vec(block)?)
+    output.extend_from_slice(b".\r\n")?;
+    output.reserve(spare)?;
+    Ok(true)
 }
 
 // Room for most blocks: the end, and one more octet for each line. Few texts have more than one line in 16 octets.
@@ -80,32 +130,57 @@ fn likely_len(text: &[u8]) -> usize
     text.len() + text.len() / 16 + 16
 }
 
-fn put_lines(block: &mut Vec<u8>, text: &[u8]) -> Result<(), AllocError>
-    ensures { OnOk result ((lines : List (List ℕ)) → HasLines text.now lines
-        → block.new.items ++ 46 ∷ 13 ∷ 10 ∷ [] ≡ block.old.items ++ written lines) }
+// Puts out each line of a text; `false` if one has a NUL, or a CR without an LF after it.
+fn put_lines(output: &mut BytesMut, text: &[u8]) -> Result<bool, AllocError>
+    ensures lines { result ≡ Ok true → (form : List ℕ) × AreWritten text.now [] form
+        × (output.new.items ≡ output.old.items ++ form) }
+    ensures none { result ≡ Ok false → (lines : List (List ℕ)) → HasLines text.now lines → ⊥ }
+    ensures extends { Extends output.old output.new }
 {
-    let mut from = 0;
-    for at in memchr_iter(b'\n', text) {
-        put_line(block, without_cr(&text[from..at]))?;
-        from = at + 1;
+    let mut rest = text;
+    while !rest.is_empty() {
+        match put_next(output, rest)? {
+            Some(next) => rest = next,
+            None => return Ok(false),
+        }
     }
-    if from < text.len() {
-        put_line(block, &text[from..])?;
+    Ok(true)
+}
+
+// Puts out the first line of a text, and returns the rest after it; `None` if it has a NUL, or a CR without an LF after
+// it.
+#[inline(always)]
+fn put_next<'t>(output: &mut BytesMut, text: &'t [u8]) -> Result<Option<&'t [u8]>, AllocError>
+    requires { 0 < length text.now }
+    ensures lines { IfOk result (λ next. IfSome next (λ rest. (form : List ℕ)
+        × AreWritten text.now rest.now form
+        × (output.new.items ≡ output.old.items ++ form))) }
+    ensures shorter { IfOk result
+        (λ next. IfSome next (λ rest. length rest.now < length text.now)) }
+    ensures none { IfOk result (λ next. IfNone next
+        ((lines : List (List ℕ)) → HasLines text.now lines → ⊥)) }
+    ensures extends { Extends output.old output.new }
+{
+    let run = first_run(text);
+    if !ends_line(run.stop) {
+        return Ok(None);
     }
-    Ok(())
+    put_line(output, run.octets)?;
+    Ok(Some(run.rest))
 }
 
 #[inline(always)]
-fn put_line(block: &mut Vec<u8>, line: &[u8]) -> Result<(), AllocError>
-    ensures { OnOk result (block.new.items
-        ≡ block.old.items ++ (stuffed line.now ++ 13 ∷ 10 ∷ [])) }
+fn put_line(output: &mut BytesMut, line: &[u8]) -> Result<(), AllocError>
+    ensures line { OnOk result (output.new.items
+        ≡ output.old.items ++ (stuffed line.now ++ 13 ∷ 10 ∷ [])) }
+    ensures extends { Extends output.old output.new }
 {
+    output.reserve(line.len() + 3)?;
     if begins_with_dot(line) {
-        block.push(b'.')?;
+        output.extend_reserved(b".");
     }
-    block.extend_from_slice(line)?;
-    block.push(b'\r')?;
-    block.push(b'\n')?;
+    output.extend_reserved(line);
+    output.extend_reserved(b"\r\n");
     Ok(())
 }
 

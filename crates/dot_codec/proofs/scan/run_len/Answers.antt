@@ -1,18 +1,11 @@
-use Rattle.dot_codec.proofs.Runs.{run_found}
+use Rattle.dot_codec.proofs.Offsets.{run_found}
 use Rattle.dot_codec.proofs.scan.run_len.Goals as goal
 
+pub returns-clause-within : goal.returns-clause-within
+returns-clause-within c = rw c.unwrap_or.ensures (run_found c.args.octets.now c.next.result c.memchr3_iter.result c.next.new.self c.memchr3_iter.ensures.value c.next.ensures.steps).0
+
 pub returns-clause-run : goal.returns-clause-run
-returns-clause-run c =
-    let octets = c.args.octets.now in
-    let line = c.without_cr-line.result.now in
-    let ends = rw c.unwrap_or-lf.ensures at c.without_cr-line.ensures.either in
-    let found = run_found octets line c.memchr.result c.memchr2.result c.memchr.ensures ends c.memchr2.ensures in
-    rw c.unwrap_or.ensures found.1
+returns-clause-run c = rw c.unwrap_or.ensures (run_found c.args.octets.now c.next.result c.memchr3_iter.result c.next.new.self c.memchr3_iter.ensures.value c.next.ensures.steps).1
 
 pub returns-clause-end : goal.returns-clause-end
-returns-clause-end c =
-    let octets = c.args.octets.now in
-    let line = c.without_cr-line.result.now in
-    let ends = rw c.unwrap_or-lf.ensures at c.without_cr-line.ensures.either in
-    let found = run_found octets line c.memchr.result c.memchr2.result c.memchr.ensures ends c.memchr2.ensures in
-    rw c.unwrap_or.ensures found.2
+returns-clause-end c = rw c.unwrap_or.ensures (run_found c.args.octets.now c.next.result c.memchr3_iter.result c.next.new.self c.memchr3_iter.ensures.value c.next.ensures.steps).2
