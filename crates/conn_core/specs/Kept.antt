@@ -1,5 +1,5 @@
 -- What the private code says of what it keeps.
-use Rattle.std.specs.Prelude.{ℕ, ◌+◌, ◌++◌, ◌∷◌, [], Bool, Option, Some, None, List, find}
+use Rattle.std.specs.Prelude.{◌≡◌, ℕ, ◌+◌, ◌++◌, ◌∷◌, [], Bool, Option, Some, None, List, find}
 use Rattle.reply_reader.specs.Stream.{Given}
 use Rattle.std.specs.Set.{remove_key}
 use Rattle.dot_codec.specs.Lines.{IsSendable}
@@ -7,7 +7,7 @@ use Rattle.conn_core.specs.Commands.{Handing, Sendable, Gone, Unsendable, Held, 
 use Rattle.conn_core.specs.Receipt.{IsBlockOf}
 use Rattle.ledger_core.specs.State.{Owing}
 use Rattle.conn_core.specs.State.{Awaited, State}
-use Rattle.conn_core.specs.Machine.{answered_by, fits_awaited, belongs_to_awaited, newly, parted}
+use Rattle.conn_core.specs.Machine.{answered_by, handed, fits_awaited, belongs_to_awaited, newly, parted}
 use Rattle.conn_core.specs.declared.codes.Meaning.{Meaning}
 use Rattle.conn_core.specs.declared.codes.Meaning.TheVariants.{Wanted, SendBlock, Later, Final}
 use Rattle.conn_core.specs.declared.machine.articles.Loss.{Loss}
@@ -49,6 +49,10 @@ abbrev pub IsTextAs : List ℕ → Handing → Type 0
 IsTextAs text (Sendable block) = IsBlockOf text block
 IsTextAs text Gone = ⊥
 IsTextAs text Unsendable = ¬ (IsSendable text)
+
+-- a text is sent for the first want of that key
+abbrev pub Sends : State → ℕ → List ℕ → State → Type 0
+Sends old number text new = (block : List ℕ) × IsBlockOf text block × (new ≡ handed old number (Sendable block))
 
 -- the first want of that key is gone
 abbrev pub without_want : State → ℕ → State

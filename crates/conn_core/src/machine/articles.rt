@@ -1,10 +1,12 @@
 // Articles that are handed in.
-ghost use Rattle.std.specs.Prelude.{◌≡◌, ◌≤◌, ◌++◌, [], ◌∷◌, find, OnOk, OnErr};
+ghost use Rattle.std.specs.Prelude.{◌≡◌, ◌≤◌, ◌++◌, [], ◌∷◌, ℕ, List, true, false, None, find};
+ghost use Rattle.std.specs.Prelude.{OnOk, OnErr, IsErrOf};
 ghost use Rattle.dot_codec.specs.Lines.{IsSendable};
 ghost use Rattle.conn_core.specs.Commands.{Handing, Sendable, held_for, is_at, is_of, loss_of, octets_of};
-ghost use Rattle.conn_core.specs.Kept.{IsTextAs, handing_of, without_want};
+ghost use Rattle.conn_core.specs.Kept.{IsTextAs, Sends, handing_of, without_want};
+ghost use Rattle.conn_core.specs.History.{is_streaming};
 ghost use Rattle.conn_core.specs.Machine.{handed, handed_for, quit_if_due};
-ghost use Rattle.conn_core.specs.Receipt.{IsHandedAs, IsSendableArticle};
+ghost use Rattle.conn_core.specs.Receipt.{IsBlockOf, IsHandedAs, IsSendableArticle};
 
 use super::Machine;
 use crate::codes::Verb;
@@ -15,7 +17,7 @@ use crate::outcome::Outcome;
 use crate::phase::Phase;
 use article_store::Found;
 use bytes::{Bytes, BytesMut};
-use dot_codec::{BlockRefusal, to_block};
+use dot_codec::{BlockRefusal, is_sendable, put_block, to_block};
 use funnel::MsgId;
 use ledger_core::{Cause, Debt, Key};
 use std::alloc::AllocError;
@@ -67,8 +69,8 @@ impl Machine {
         ensures unchanged { OnErr result (self.new ≡ self.old) }
         ensures no_memory { OnErr result (IsSendable text.now) }
     {
-        match to_block(*self.window.allocator(), text) {
-            Ok(block) => self.send(key, block),
+        match self.send(key, text) {
+            Ok(()) => Ok(()),
             Err(BlockRefusal::Unsendable) => {
                 self.lose(key, Loss::Unfit);
                 Ok(())
@@ -104,8 +106,59 @@ impl Machine {
         }
     }
 
-    // An `Err` changes nothing.
-    fn send(&mut self, key: Key, block: Bytes) -> Result<(), AllocError>
+    // Sends a text for the first want of that key. An `Err` changes nothing.
+    fn send(&mut self, key: Key, text: &[u8]) -> Result<(), BlockRefusal>
+        ensures ok { OnOk result (Sends self.old key text.now self.new) }
+        ensures unsendable { IsErrOf result BlockRefusal.Unsendable → IsSendable text.now → ⊥ }
+        ensures sendable { IsErrOf result BlockRefusal.NoMemory → IsSendable text.now }
+        ensures unchanged { OnErr result (self.new ≡ self.old) }
+    {
+        match self.phase {
+            Phase::Streaming => self.send_now(key, text),
+            _ => self.send_later(key, text),
+        }
+    }
+
+    // The same by TAKETHIS.
+    fn send_now(&mut self, key: Key, text: &[u8]) -> Result<(), BlockRefusal>
+        requires { is_streaming self.old.phase ≡ true }
+        ensures ok { OnOk result (Sends self.old key text.now self.new) }
+        ensures unsendable { IsErrOf result BlockRefusal.Unsendable → IsSendable text.now → ⊥ }
+        ensures sendable { IsErrOf result BlockRefusal.NoMemory → IsSendable text.now }
+        ensures unchanged { OnErr result (self.new ≡ self.old) }
+    {
+        if self.window.reserve(1).is_err() {
+            return Err(without_memory(text));
+        }
+        let Some(x) = debt_wanting(&self.held, &self.wanted, key) else {
+            return self.forget_text(key, text);
+        };
+        put_takethis(&mut self.output, x.debt().id(), text)?;
+        let ask = AwaitedAsk::new(Verb::Takethis, x.ticket());
+        self.window.push_back_reserved(ask);
+        let _ = take_wanted(&mut self.wanted, key);
+        self.quit_if_due();
+        Ok(())
+    }
+
+    // The same by IHAVE, which keeps the block.
+    fn send_later(&mut self, key: Key, text: &[u8]) -> Result<(), BlockRefusal>
+        requires { is_streaming self.old.phase ≡ false }
+        ensures ok { OnOk result (Sends self.old key text.now self.new) }
+        ensures unsendable { IsErrOf result BlockRefusal.Unsendable → IsSendable text.now → ⊥ }
+        ensures sendable { IsErrOf result BlockRefusal.NoMemory → IsSendable text.now }
+        ensures unchanged { OnErr result (self.new ≡ self.old) }
+    {
+        let block = to_block(*self.window.allocator(), text)?;
+        match self.offer_block(key, block) {
+            Ok(()) => Ok(()),
+            Err(_) => Err(BlockRefusal::NoMemory),
+        }
+    }
+
+    // Offers a block by IHAVE. An `Err` changes nothing.
+    fn offer_block(&mut self, key: Key, block: Bytes) -> Result<(), AllocError>
+        requires { is_streaming self.old.phase ≡ false }
         ensures ok { OnOk result (self.new ≡ handed self.old key (Sendable block)) }
         ensures unchanged { OnErr result (self.new ≡ self.old) }
     {
@@ -114,19 +167,26 @@ impl Machine {
             return Ok(());
         };
         self.window.reserve(1)?;
-        let ask = match self.phase {
-            Phase::Streaming => {
-                put_takethis(&mut self.output, x.debt().id(), &block)?;
-                AwaitedAsk::new(Verb::Takethis, x.ticket())
-            }
-            _ => {
-                put_ihave(&mut self.output, &mut self.blocks, x.debt().id(), block)?;
-                AwaitedAsk::new(Verb::Ihave, x.ticket())
-            }
-        };
+        put_ihave(&mut self.output, &mut self.blocks, x.debt().id(), block)?;
+        let ask = AwaitedAsk::new(Verb::Ihave, x.ticket());
         self.window.push_back_reserved(ask);
         let _ = take_wanted(&mut self.wanted, key);
         self.quit_if_due();
+        Ok(())
+    }
+
+    // Sends nothing, since no debt wants a text of that key.
+    fn forget_text(&mut self, key: Key, text: &[u8]) -> Result<(), BlockRefusal>
+        requires { held_for self.old.held (find (is_of key) self.old.wanted) ≡ None }
+        ensures ok { OnOk result (Sends self.old key text.now self.new) }
+        ensures unsendable { IsErrOf result BlockRefusal.Unsendable → IsSendable text.now → ⊥ }
+        ensures sendable { IsErrOf result BlockRefusal.NoMemory → IsSendable text.now }
+        ensures unchanged { OnErr result (self.new ≡ self.old) }
+    {
+        if !is_sendable(text) {
+            return Err(BlockRefusal::Unsendable);
+        }
+        self.forget(key);
         Ok(())
     }
 
@@ -139,19 +199,41 @@ impl Machine {
     }
 }
 
-// Puts out the article with its command (RFC 4644, section 2.5), and keeps room for a QUIT. An `Err` puts out
-// nothing.
-fn put_takethis(output: &mut BytesMut, id: &MsgId, block: &Bytes) -> Result<(), AllocError>
-    ensures ok { OnOk result
-        (output.new.items ≡ output.old.items ++ octets_of Verb.Takethis id.now block.now) }
+// Why a text was not sent, if memory was refused.
+fn without_memory(text: &[u8]) -> BlockRefusal
+    ensures unsendable { result ≡ BlockRefusal.Unsendable → IsSendable text.now → ⊥ }
+    ensures sendable { result ≡ BlockRefusal.NoMemory → IsSendable text.now }
+{
+    if is_sendable(text) {
+        BlockRefusal::NoMemory
+    } else {
+        BlockRefusal::Unsendable
+    }
+}
+
+// Puts out the article with its command (RFC 4644, section 2.5), and keeps room for a QUIT. An `Err` takes back what is
+// out.
+fn put_takethis(output: &mut BytesMut, id: &MsgId, text: &[u8]) -> Result<(), BlockRefusal>
+    ensures ok { OnOk result ((block : List ℕ) × IsBlockOf text.now block
+        × (output.new.items ≡ output.old.items ++ octets_of Verb.Takethis id.now block)) }
     ensures room { OnOk result (6 ≤ output.new.spare) }
+    ensures unsendable { IsErrOf result BlockRefusal.Unsendable → IsSendable text.now → ⊥ }
+    ensures sendable { IsErrOf result BlockRefusal.NoMemory → IsSendable text.now }
     ensures unchanged { OnErr result (output.new.items ≡ output.old.items) }
     ensures spare { OnErr result (output.old.spare ≤ output.new.spare) }
 {
-    output.reserve(id_len(id) + block.len() + (VERB_MAX_OCTETS + QUIT_OCTETS))?;
+    if output.reserve(id_len(id) + VERB_MAX_OCTETS).is_err() {
+        return Err(without_memory(text));
+    }
+    let len = output.len();
     put_line(output, b"TAKETHIS ", id.bytes());
-    output.extend_reserved(block.as_slice());
-    Ok(())
+    match put_block(output, text, QUIT_OCTETS) {
+        Ok(()) => Ok(()),
+        Err(refusal) => {
+            output.truncate(len);
+            Err(refusal)
+        }
+    }
 }
 
 // Offers the article and keeps its block (RFC 3977, section 6.3.2), and keeps room for a QUIT. An `Err` does nothing.
