@@ -1,5 +1,6 @@
 // Texts as blocks, and blocks as texts: the crate dot_codec.
 use crate::octets::{put, put_printed};
+use bytes::BytesMut;
 use dot_codec::{BlockFault, BlockRefusal, from_block, is_sendable, to_block};
 use std::alloc::AllocError;
 
@@ -13,6 +14,18 @@ pub fn put_block(answer: &mut Vec<u8>, text: &[u8]) -> Result<(), AllocError> {
         Err(BlockRefusal::NoMemory) => Err(AllocError),
         Err(refusal) => put_printed(answer, &refusal),
     }
+}
+
+/// What is in an output that had these octets, once it was to take a text's block; the refusal before it, if there is
+/// one.
+pub fn put_output(answer: &mut Vec<u8>, octets: &[u8], text: &[u8]) -> Result<(), AllocError> {
+    let mut output = BytesMut::copy_from_slice(*answer.allocator(), octets)?;
+    match dot_codec::put_block(&mut output, text, 6) {
+        Ok(()) => {}
+        Err(BlockRefusal::NoMemory) => return Err(AllocError),
+        Err(refusal) => put_printed(answer, &refusal)?,
+    }
+    put(answer, output.as_slice())
 }
 
 /// Whether a text can be sent, of one whose block is too long for a row.

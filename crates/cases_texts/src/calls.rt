@@ -1,6 +1,6 @@
 // The calls that rows name.
 use crate::articles::{BrokenDisk, insert, put_fetched, put_handed_out, put_read, put_removed};
-use crate::blocks::{put_block, put_sendable, put_text};
+use crate::blocks::{put_block, put_output, put_sendable, put_text};
 use crate::fault::RowFault;
 use crate::lines::{
     put_backlog_line, put_cut, put_fed, put_id, put_line, put_named, put_peer_name, put_token,
@@ -82,6 +82,7 @@ fn answer_text(
         ("cut", [text]) => put_cut(answer, text),
         ("feed", [piece]) => put_fed(answer, &mut kept.cutter, piece),
         ("block", [text]) => put_block(answer, text),
+        ("output", [octets, text]) => put_output(answer, octets, text),
         ("sendable", [text]) => put_sendable(answer, text),
         ("text", [block]) => put_text(answer, block),
         ("replies", [octets]) => put_replies(answer, octets),
