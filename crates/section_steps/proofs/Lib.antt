@@ -1,0 +1,13 @@
+pub mod Tapes
+pub mod AtFronts
+pub mod AtSides
+pub mod FrontCalls
+pub mod Senders
+pub mod SideCalls
+pub mod Posts
+pub mod OfFronts
+pub mod OfSides
+pub mod OfReceipts
+pub mod OfEnds
+pub mod Machines
+pub mod Kept

@@ -1,0 +1,12 @@
+pub mod TapeSteps
+pub mod Stands
+pub mod Steps
+pub mod FrontWords
+pub mod Ends
+pub mod FrontClauses
+pub mod SideClauses
+pub mod At
+pub mod Receipts
+pub mod Split
+pub mod Machine
+pub mod Runs
