@@ -17,7 +17,10 @@
 #   bare: from a backlog, rates and processor time an article, of 1, 4 and 32 KiB over 1, 2 and 4 connections, beside a
 #     sender in C of one thread that notes nothing of what it sends (bench/bare.c, built by cc): one that opens the file
 #     of each article, and one that has all of them in memory as they are sent;
-#   spool: the same, if the articles are read where innd keeps them, a tradspool in wire format that is made here,
+#   together: from backlogs, 1, 2 and 4 peers that all get the same articles, of 1, 4 and 32 KiB over 2 connections each:
+#     deliveries a second and the processor time of each, and, where strace is there, how often an article's file is
+#     opened for 1,000 articles (aim: at most 2.1 times). If $BEFORE names another checkout, beside that one's by turns;
+#   spool: the same as bare, if the articles are read where innd keeps them, a tradspool in wire format that is made here,
 #     beside copies of them and, where it is installed, beside INN's innfeed over the same spool.
 #
 # $INNFEED names another program to measure.
@@ -27,7 +30,7 @@
 [ -z "${BEFORE-}" ] || built "$BEFORE" innfeed
 choose_feeder
 most=${1:-20000} runs=${2:-2} parts=("${@:3}")
-[ ${#parts[@]} -gt 0 ] || parts=(rates before costs late 1MiB bare spool)
+[ ${#parts[@]} -gt 0 ] || parts=(rates before costs late 1MiB bare together spool)
 run=$(mktemp -d)
 trap 'kill $(jobs -p) 2>/dev/null || true; rm -rf "$run"' EXIT
 cd "$run"
@@ -208,6 +211,63 @@ cell_bare() {
   done
 }
 
+# from_backlogs PROGRAM PEERS: the deliveries a second to so many peers, once all is owed to each.
+from_backlogs() {
+  local unreached
+  cleared
+  mapfile -t unreached < <(seq "$2" | sed 's/.*/1/')
+  settings 2 "${unreached[@]}"
+  "$1" -c conf "funnel.$2" >told 2>&1
+  listen "$2"
+  settings 2 "${ports[@]}"
+  timed ${trace:-} "$1" -c conf -x
+  hush
+  sed -n 's/.*art_per_s=\([0-9]*\).*/\1/p' told.* | awk '{ sum += $1 } END { print sum }'
+}
+
+# opens PROGRAM PEERS: how often an article's file is opened.
+opens() {
+  trace='strace -f -e trace=openat -o calls' from_backlogs "$1" "$2" >/dev/null
+  awk -v place="$run/articles/" -v count="$count" 'index($0, place) { n++ } END { printf "%.2f", n / count }' calls
+}
+
+# told_together NAME PEERS: what the runs of this name were.
+told_together() {
+  awk -v rate="$(greatest "$1")" -v spent="$(least "$1.spent")" -v peers="$2" \
+    'BEGIN { printf "%d deliveries a second, %.2f us of processor each", rate, spent / peers }'
+  if [ -f "$1.opens" ]; then printf ', an article is opened %s times' "$(<"$1.opens")"; fi
+}
+
+# cell_together: deliveries of this size to 1, 2 and 4 peers.
+cell_together() {
+  local peers turn line other=
+  [ -z "${BEFORE-}" ] || other=$BEFORE/crates/innfeed/out/innfeed
+  for peers in 1 2 4; do
+    rm -f ours theirs ./*.spent ./*.opens
+    for ((turn = 0; turn < runs; turn++)); do
+      measured ours from_backlogs "$ours" "$peers"
+      [ -z "$other" ] || measured theirs from_backlogs "$other" "$peers"
+    done
+    if [ "$size" = 1024 ] && command -v strace >/dev/null; then
+      articles 1024 1000
+      opens "$ours" "$peers" >ours.opens
+      [ -z "$other" ] || opens "$other" "$peers" >theirs.opens
+      articles 1024 "$most"
+    fi
+    line="$size octets, $peers peers over 2 connections each: $(told_together ours "$peers")"
+    [ -z "$other" ] || line+="; the other checkout's: $(told_together theirs "$peers"), $(beside_other)"
+    echo "$line ($commit)"
+  done
+}
+
+# beside_other: how many times the other checkout's figures ours are.
+beside_other() {
+  awk -v rate="$(greatest ours)" -v spent="$(least ours.spent)" -v other="$(greatest theirs)" \
+    -v others="$(least theirs.spent)" 'BEGIN {
+    printf "%.2f times its rate, %.2f times its processor time", rate / (other > 0 ? other : 1), spent / (others > 0 ? others : 1)
+  }'
+}
+
 # in_spool: the articles in a tradspool in wire format, a batch of their tokens for INN's innfeed and a funnel for ours.
 in_spool() {
   rm -rf spool && mkdir -p spool/articles/misc/bench
@@ -270,6 +330,7 @@ for part in "${parts[@]}"; do
     late) window ;;
     1MiB) large ;;
     bare) each_size cell_bare ;;
+    together) each_size cell_together ;;
     spool) from_innd ;;
     *) echo "feed.sh: no part $part" >&2; exit 64 ;;
   esac

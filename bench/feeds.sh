@@ -33,7 +33,7 @@ END
 inn_conf "$run"
 
 # articles SIZE COUNT [FILES]: sets count and files; COUNT articles of about SIZE octets in FILES files (COUNT), a batch
-# of them for INN's innfeed, and funnels of them for ours: for the peer p1, and for p1 to p4.
+# of them for INN's innfeed, and funnels of them for ours: for the peer p1, for p1 and p2, and for p1 to p4.
 articles() {
   count=$2 files=${3:-$2}
   rm -rf articles && mkdir articles
@@ -51,6 +51,7 @@ articles() {
       file = (n - 1) % files + 1
       print file, "<" n "@bench>" > "batch"
       print file, "<" n "@bench>", "p1" > "funnel.1"
+      print file, "<" n "@bench>", "p1 p2" > "funnel.2"
       print file, "<" n "@bench>", "p1 p2 p3 p4" > "funnel.4"
     }
   }'

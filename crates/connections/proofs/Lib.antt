@@ -1,4 +1,6 @@
 pub mod Articles
 pub mod Calls
+pub mod Kept
 pub mod Places
+pub mod Sources
 pub mod Texts

@@ -12,11 +12,12 @@ use Rattle.conn_core.specs.Stands.{StandsFor}
 use Rattle.conn_core.specs.State.{Holding}
 use Rattle.conn_core.specs.declared.options.Options.{Options}
 use Rattle.conn_laws.specs.Articles.{debt_served, has_article}
+use Rattle.connections.specs.Sources.{IsGivenFor}
 
--- a source of articles gave this, when it was asked for the token and the message-id of the debt; `gives` is what such
--- a source says of what it gives
+-- A source of articles gave this, when it was asked for the token and the message-id of the debt; `gives` is what such
+-- a source says of what it gives.
 abbrev pub IsFoundFor : {A : Type 0} → (gives : A → (token id : List ℕ) → Found → Type 0) → Owing → Found → Type 0
-IsFoundFor {A} gives debt found = (source : A) × gives source debt.1.0 debt.1.1 found
+IsFoundFor gives debt found = IsGivenFor gives debt.1.0 debt.1.1 found
 
 module _ (is_found : Owing → Found → Type 0) where
   -- what is handed in for a debt is what was found for it

@@ -2,7 +2,9 @@ pub mod Articles
 pub mod Blame
 pub mod Dropped
 pub mod Given
+pub mod Kept
 pub mod Missing
 pub mod Reach
 pub mod Slots
+pub mod Sources
 pub mod Suspects

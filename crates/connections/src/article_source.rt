@@ -1,5 +1,6 @@
 // Where the articles of debts come from, and that each goes out for its own debt.
 ghost use Rattle.std.specs.Prelude.{ℕ, List, IfOk};
+ghost use Rattle.article_store.specs.Finds.{IsFound};
 ghost use Rattle.article_store.specs.declared.store.Found.{Found};
 ghost use Rattle.conn_core.specs.History.{Event};
 ghost use Rattle.conn_core.specs.Stands.{StandsFor};
@@ -13,8 +14,8 @@ use ledger_core::Debt;
 
 /// Where the articles of debts come from.
 pub trait ArticleSource: SpoolDirectory {
-    /// What the source says of what it gives for a token and a message-id. A store whose articles lie outside the
-    /// program says nothing, as the default does: that holds of everything.
+    /// What the source says of what it gives for a token and a message-id. The default says nothing: that holds of
+    /// everything.
     ghost gives: { Self → (token id : List ℕ) → Found → Type 0 } = { λ _ _ _ _. Unit {0} };
 
     /// What is found for a debt: under its token, with its message-id.
@@ -26,6 +27,8 @@ pub trait ArticleSource: SpoolDirectory {
 }
 
 impl<S: SpoolDirectory> ArticleSource for S {
+    ghost gives = { λ _ _ _. IsFound };
+
     fn article_of(&mut self, debt: &Debt) -> Result<Found, StoreFault> {
         self.fetch_for(debt.token(), debt.id())
     }

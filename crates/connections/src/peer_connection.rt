@@ -4,12 +4,12 @@ ghost use Rattle.conn_core.specs.State.{untold_at};
 ghost use Rattle.connections.specs.Articles.{AllStayFound, HandsInNothing, IsFoundFor, MayHandIn};
 ghost use Rattle.connections.specs.Given.{outcomes_in};
 
-use crate::Spool;
 use crate::article_source::ArticleSource;
 use crate::blame::{Blame, ConnectionEnd};
 use crate::close_reason::{CloseReason, ObservedEnd, SessionStage, begins_with_code};
 use crate::deferrals::Deferrals;
 use crate::descriptors::unread_article;
+use crate::feeder_spool::FeederSpool;
 use crate::given_outcome::GivenOutcome;
 use crate::large_rooms::LargeRooms;
 use crate::last_stage::failed_until;
@@ -626,13 +626,14 @@ impl PeerConnection {
     /// Hands in the articles that are wanted, until there is enough output, half a window of articles at most: so the
     /// peer works on one half while the other is read. It closes if one can't be read. Returns false if the spool is
     /// missing, or counts as missing: then none is handed in. What is handed in for each debt is what the source gives
-    /// for its token and its message-id.
+    /// for its token and its message-id, or gave a while ago; `now` is the second that it is.
     pub fn hand_in<R: Log, A: ArticleSource>(
         &mut self,
         rt: &R,
-        spool: &mut Spool<A>,
+        spool: &mut FeederSpool<A>,
         rule: SpoolRule<'_>,
         unread: &mut UnreadPaths,
+        now: u64,
     ) -> bool
         ensures { AllStayFound (IsFoundFor A.gives) self.old.conn self.new.conn }
     {
@@ -640,7 +641,7 @@ impl PeerConnection {
             if self.conn.output().len() >= OUTPUT_ENOUGH_OCTETS {
                 return true;
             }
-            match self.hand(rt, spool, rule, unread) {
+            match self.hand(rt, spool, rule, unread, now) {
                 HandInResult::None => return true,
                 HandInResult::One => {}
                 HandInResult::OutOfReach => return false,
@@ -653,9 +654,10 @@ impl PeerConnection {
     fn hand<R: Log, A: ArticleSource>(
         &mut self,
         rt: &R,
-        spool: &mut Spool<A>,
+        spool: &mut FeederSpool<A>,
         rule: SpoolRule<'_>,
         unread: &mut UnreadPaths,
+        now: u64,
     ) -> HandInResult
         ensures { AllStayFound (IsFoundFor A.gives) self.old.conn self.new.conn }
     {
@@ -664,7 +666,7 @@ impl PeerConnection {
             return HandInResult::None;
         };
         let key = debt.key();
-        match spool.store.article_of(debt) {
+        match spool.article_of(debt, now) {
             Ok(found) => {
                 if let Some(ended) = spool_end(&found, &spool.store, rule, debt.token()) {
                     let _ = unread.add(self.alloc, &spool.path, None);

@@ -5,7 +5,8 @@ use crate::FeederFault;
 use crate::peer_state::PeerState;
 use article_store::SpoolDirectory;
 use connections::{
-    LargeRooms, Outages, PeerConnection, PeerTarget, Slot, Spool, SpoolTally, Suspects, UnreadPaths,
+    FeederSpool, LargeRooms, Outages, PeerConnection, PeerTarget, Slot, Spool, SpoolTally,
+    Suspects, UnreadPaths,
 };
 use flusher::{FeederShare, Naming};
 use mio::{Events, Poll, Token, Waker};
@@ -45,7 +46,7 @@ pub struct Feeder<S: SpoolDirectory + Drop, C: Net + Drop, N: Naming> {
     pub(crate) alloc: Global,
     pub(crate) net: C,
     pub(crate) hosts: Resolver,
-    pub(crate) spool: Spool<S>,
+    pub(crate) spool: FeederSpool<S>,
     // What it shares with the other feeder about the spool.
     pub(crate) tally: Arc<SpoolTally>,
     // What it shares with the other feeder about suspects.
@@ -85,9 +86,9 @@ pub struct Feeder<S: SpoolDirectory + Drop, C: Net + Drop, N: Naming> {
 
 impl<S: SpoolDirectory + Drop, C: Net + Drop, N: Naming> Feeder<S, C, N> {
     /// The first feeder (`which` is 0) or the second (1): it has connection k of each peer if k mod 2 is `which`.
-    /// Articles come from `spool`, about which the two feeders share `tally`, as they share `suspects` and
-    /// `outages`; `start` is the time 0 of all threads, `net` the capability to open sockets, and `hosts` looks up the
-    /// peers' hosts.
+    /// Articles come from `spool`, about which the two feeders share `tally`, as they share `suspects` and `outages`.
+    /// If it has connections to several peers, what it reads there is kept for the others for a while. `start` is the
+    /// time 0 of all threads, `net` the capability to open sockets, and `hosts` looks up the peers' hosts.
     ///
     /// # Errors
     /// The system's, if no poll can be made; memory was refused.
@@ -108,6 +109,7 @@ impl<S: SpoolDirectory + Drop, C: Net + Drop, N: Naming> Feeder<S, C, N> {
         let events = Events::with_capacity(alloc, EVENTS_MAX)?;
         let buffer = vec![in alloc; 0u8; BUFFER_OCTETS]?;
         let (slots, ends) = slots_of(alloc, &targets, which)?;
+        let spool = FeederSpool::new(alloc, spool, served_by(&targets, which))?;
         let mut peers = Vec::new(alloc);
         for target in targets {
             peers.push(PeerState::new(alloc, target))?;
@@ -191,6 +193,14 @@ fn slots_of(
         ends.push(slots.len())?;
     }
     Ok((slots, ends))
+}
+
+// To how many of these peers the feeder has connections.
+fn served_by(targets: &Vec<PeerTarget>, which: u8) -> usize {
+    targets
+        .iter()
+        .filter(|target| share_of(target.connections, which) > 0)
+        .count()
 }
 
 // How many of the connections 0, 1 .. are this feeder's: those whose number mod 2 is `which`.

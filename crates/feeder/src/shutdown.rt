@@ -31,7 +31,7 @@ impl<S: SpoolDirectory + Drop, C: Net + Drop, N: Naming> Feeder<S, C, N> {
         let _ = self.await_goodbyes(rt, &view, signals);
         self.break_all(rt, &view);
         if self.tally.end() && self.tally.missing(rt) > 0 {
-            let _ = self.unread.add(self.alloc, &self.spool.path, None);
+            let _ = self.unread.add(self.alloc, self.spool.path(), None);
         }
     }
 
