@@ -3,8 +3,7 @@ use crate::run::RunEnv;
 use crate::spool_sync::SpoolSync;
 use crate::start_and_end::log_end;
 use acknowledged_lines::Acknowledged;
-use article_store::SpoolDirectory;
-use connections::UnreadPaths;
+use connections::{ArticleSource, UnreadPaths};
 use disk_model::Disk;
 use feed_ends::{FeedEnd, FileError};
 use feeder::{Feeder, FeederFault};
@@ -66,7 +65,7 @@ pub(crate) fn left_by<'a, F, W, N: Naming>(
     (left, share, end)
 }
 
-fn left_by_feeder<S: SpoolDirectory + Drop, C: Net + Drop, N: Naming>(
+fn left_by_feeder<S: ArticleSource + Drop, C: Net + Drop, N: Naming>(
     counted: CountedWorker<'_, Feeder<S, C, N>>,
 ) -> LeftFeeder<N> {
     let CountedWorker { worker, .. } = counted;
@@ -85,7 +84,7 @@ fn left_by_feeder<S: SpoolDirectory + Drop, C: Net + Drop, N: Naming>(
 
 /// What the workers leave, the intake this share; `None` if a thread could not be started. Adds to `end` what went
 /// wrong at work: the flusher's fault first, since the others meet the same fault after it, then `intake_end`.
-pub(crate) fn ended_workers<'a, S: SpoolDirectory + Drop, C: Net + Drop, N: Naming>(
+pub(crate) fn ended_workers<'a, S: ArticleSource + Drop, C: Net + Drop, N: Naming>(
     names: &[PeerName],
     ended: Result<
         (

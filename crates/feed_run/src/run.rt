@@ -11,8 +11,7 @@ use crate::start_and_end::{log_no_login, log_start};
 use crate::suspects::{keep_all, suspects_of};
 use crate::targets::{by_name, hosts_of, targets_of};
 use acknowledged_lines::Acknowledged;
-use article_store::SpoolDirectory;
-use connections::{Outages, PeerTarget, Spool, SpoolTally, Suspects};
+use connections::{ArticleSource, Outages, PeerTarget, Spool, SpoolTally, Suspects};
 use disk_model::{FileDisk, TapeDirectory, TapeFile};
 use feed_conf::{Conf, PeerConf};
 use feed_ends::{FeedEnd, FileError, Source};
@@ -128,7 +127,7 @@ struct Prepared<'a, S, F> {
 
 // The two feeders, the resolver that they share, and what wakes each.
 #[derive(Drop)]
-struct Feeders<S: SpoolDirectory + Drop, C: Net + Drop, N: Naming> {
+struct Feeders<S: ArticleSource + Drop, C: Net + Drop, N: Naming> {
     resolver: Resolver,
     both: (Feeder<S, C, N>, Feeder<S, C, N>),
     wakers: (Arc<Waker>, Arc<Waker>),
@@ -142,7 +141,7 @@ struct Feeders<S: SpoolDirectory + Drop, C: Net + Drop, N: Naming> {
 pub(crate) fn feed<
     R: AllocGlobal + Threads + Wait + Clock + Log + Send + Sync + 'static,
     F: AllocGlobal + Files<File = File>,
-    S: SpoolDirectory + Send + Drop,
+    S: ArticleSource + Send + Drop,
     H: Spools<Store = S>,
     C: Net<Listener = TcpListener, Stream = TcpStream> + Copy + Drop + Send,
     L: LookUp + Copy + Send + Sync + Drop + 'static,
@@ -223,7 +222,7 @@ fn places_of(alloc: Global, conf: &Conf) -> Result<Places, AllocError> {
 fn feed_open<
     R: AllocGlobal + Threads + Wait + Clock + Log + Send + Sync + 'static,
     F: AllocGlobal + Files<File = File>,
-    S: SpoolDirectory + Send + Drop,
+    S: ArticleSource + Send + Drop,
     H: Spools<Store = S>,
     C: Net<Listener = TcpListener, Stream = TcpStream> + Copy + Drop + Send,
     L: LookUp + Copy + Send + Sync + Drop + 'static,
@@ -515,7 +514,7 @@ fn work<
     N: Naming + Send + Sync,
     R: AllocGlobal + Threads + Wait + Clock + Log + Send + Sync + 'static,
     F: AllocGlobal + Files<File = File>,
-    S: SpoolDirectory + Send + Drop,
+    S: ArticleSource + Send + Drop,
     H,
     C: Net<Listener = TcpListener, Stream = TcpStream> + Copy + Drop + Send,
     L: LookUp + Copy + Send + Sync + Drop + 'static,
@@ -561,7 +560,7 @@ fn run_workers<
     N: Naming + Send + Sync,
     R: AllocGlobal + Threads + Wait + Clock + Log + Send + Sync + 'static,
     F: AllocGlobal + Files<File = File>,
-    S: SpoolDirectory + Send + Drop,
+    S: ArticleSource + Send + Drop,
     H,
     C: Net<Listener = TcpListener, Stream = TcpStream> + Copy + Drop + Send,
     L,
@@ -651,7 +650,7 @@ fn feeders_of<
     N: Naming,
     R: Wait + Clock + Threads + Log + Send + Sync + 'static,
     F: AllocGlobal,
-    S: SpoolDirectory + Drop,
+    S: ArticleSource + Drop,
     H,
     C: Net + Copy + Drop,
     L: LookUp + Copy + Send + Sync + Drop + 'static,
@@ -701,7 +700,7 @@ fn feeders_of<
 }
 
 // A feeder's waker, by which the resolver too wakes it for each answer.
-fn waker_of<R: Wait + Log, S: SpoolDirectory + Drop, C: Net + Drop, N: Naming>(
+fn waker_of<R: Wait + Log, S: ArticleSource + Drop, C: Net + Drop, N: Naming>(
     rt: &R,
     alloc: Global,
     resolver: &Resolver,

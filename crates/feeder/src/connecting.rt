@@ -2,10 +2,9 @@
 use crate::Feeder;
 use crate::peer_state::name_of;
 use crate::post_view::PostView;
-use article_store::SpoolDirectory;
 use conn_core::{Conn, CxnId};
 use connections::logging::{log_unknown, log_unmade, text_of};
-use connections::{ConnectionOwner, PeerConnection};
+use connections::{ArticleSource, ConnectionOwner, PeerConnection};
 use disk_model::Disk;
 use event_loop::SocketLink;
 use flusher::{Naming, Pace};
@@ -26,7 +25,7 @@ enum SlotScan {
     Enough,
 }
 
-impl<S: SpoolDirectory + Drop, C: Net + Drop, N: Naming> Feeder<S, C, N> {
+impl<S: ArticleSource + Drop, C: Net + Drop, N: Naming> Feeder<S, C, N> {
     /// Begins to connect the slots that are due, no more for a peer than it needs, if slots are to be checked and
     /// debts are claimed. A peer whose front is in use is checked again at the next turn.
     pub(crate) fn connect_due<D: Disk, R: Wait + Log, P: Pace>(

@@ -3,10 +3,9 @@ ghost use Rattle.std.specs.Prelude.{◌≡◌, ◌+◌, ◌-◌, ◌/◌, ◌%�
 
 use crate::FeederFault;
 use crate::peer_state::PeerState;
-use article_store::SpoolDirectory;
 use connections::{
-    FeederSpool, LargeRooms, Outages, PeerConnection, PeerTarget, Slot, Spool, SpoolTally,
-    Suspects, UnreadPaths,
+    ArticleSource, FeederSpool, LargeRooms, Outages, PeerConnection, PeerTarget, Slot, Spool,
+    SpoolTally, Suspects, UnreadPaths,
 };
 use flusher::{FeederShare, Naming};
 use mio::{Events, Poll, Token, Waker};
@@ -29,7 +28,7 @@ pub(crate) const WAKER_TOKEN: Token = Token(usize::MAX);
 /// One thread's work: its connections to all peers. It owns all that it uses, so it goes into its thread by value and
 /// comes back.
 #[derive(Drop)]
-pub struct Feeder<S: SpoolDirectory + Drop, C: Net + Drop, N: Naming> {
+pub struct Feeder<S: ArticleSource + Drop, C: Net + Drop, N: Naming> {
     /// Its share of what is counted.
     pub share: FeederShare<N>,
     /// The first fault: of a peer's tape, or the one that ended its work.
@@ -84,7 +83,7 @@ pub struct Feeder<S: SpoolDirectory + Drop, C: Net + Drop, N: Naming> {
     pub(crate) draining_since: Option<u64>,
 }
 
-impl<S: SpoolDirectory + Drop, C: Net + Drop, N: Naming> Feeder<S, C, N> {
+impl<S: ArticleSource + Drop, C: Net + Drop, N: Naming> Feeder<S, C, N> {
     /// The first feeder (`which` is 0) or the second (1): it has connection k of each peer if k mod 2 is `which`.
     /// Articles come from `spool`, about which the two feeders share `tally`, as they share `suspects` and `outages`.
     /// If it has connections to several peers, what it reads there is kept for the others for a while. `start` is the

@@ -8,12 +8,11 @@ use crate::service::{ServiceEnv, service};
 use crate::uptime::{Uptime, timeout};
 use crate::wake_reason::WakeReason;
 use crate::{Feeder, FeederFault};
-use article_store::SpoolDirectory;
 use conn_core::Reason;
 use connections::logging::{
     log_connected, log_deferred, log_given_up, log_over, log_refused, log_stopped, text_of,
 };
-use connections::{PeerConnection, due_at, kept_until};
+use connections::{ArticleSource, PeerConnection, due_at, kept_until};
 use disk_model::Disk;
 use flusher::{Naming, Pace, Post, Signals, Who, Work};
 use log::Log;
@@ -27,7 +26,7 @@ const DROPS_PERIOD_SECONDS: u64 = 3_600;
 // How long what is held may wait for replies if the run is to end in good order.
 const DRAINING_MAX_SECONDS: u64 = 10;
 
-impl<D: Disk, S: SpoolDirectory + Drop, C: Net + Drop, N: Naming> Work<D, N> for Feeder<S, C, N> {
+impl<D: Disk, S: ArticleSource + Drop, C: Net + Drop, N: Naming> Work<D, N> for Feeder<S, C, N> {
     /// Works on its share of the connections until
     ///
     /// - all threads are stopped; or
@@ -51,7 +50,7 @@ impl<D: Disk, S: SpoolDirectory + Drop, C: Net + Drop, N: Naming> Work<D, N> for
     }
 }
 
-impl<S: SpoolDirectory + Drop, C: Net + Drop, N: Naming> Feeder<S, C, N> {
+impl<S: ArticleSource + Drop, C: Net + Drop, N: Naming> Feeder<S, C, N> {
     fn keep_fault(&mut self, fault: FeederFault) {
         self.fault = self.fault.or(Some(fault));
     }

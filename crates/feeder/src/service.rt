@@ -5,14 +5,14 @@ ghost use Rattle.connections.specs.Given.{IsReturned};
 use crate::FeederFault;
 use crate::peer_state::PeerState;
 use crate::post_view::{PostView, is_busy, is_full};
-use article_store::SpoolDirectory;
 use conn_core::Outcome;
 use connections::logging::{
     log_kept, log_missing, log_postponed, log_suspect, log_unsendable, text_of,
 };
 use connections::{
-    ClaimStep, DroppedArticle, FeederSpool, GivenOutcome, OutcomeStep, PeerConnection, SpoolRule,
-    SpoolTally, Suspects, UnreadPaths, claim_step, stage_moment, step_of, texts_of,
+    ArticleSource, ClaimStep, DroppedArticle, FeederSpool, GivenOutcome, OutcomeStep,
+    PeerConnection, SpoolRule, SpoolTally, Suspects, UnreadPaths, claim_step, stage_moment,
+    step_of, texts_of,
 };
 use disk_model::Disk;
 use flusher::{FeederShare, Naming, Pace};
@@ -30,7 +30,7 @@ const SENT_MAX_OCTETS: u64 = 1_048_576;
 
 /// What servicing a connection uses.
 #[derive(Drop)]
-pub(crate) struct ServiceEnv<'a, S: SpoolDirectory, N: Naming> {
+pub(crate) struct ServiceEnv<'a, S: ArticleSource, N: Naming> {
     /// The peer of the connection.
     pub peer: &'a mut PeerState,
     pub spool: &'a mut FeederSpool<S>,
@@ -45,7 +45,7 @@ pub(crate) struct ServiceEnv<'a, S: SpoolDirectory, N: Naming> {
     pub gives_up: bool,
 }
 
-impl<'a, S: SpoolDirectory, N: Naming> ServiceEnv<'a, S, N> {
+impl<'a, S: ArticleSource, N: Naming> ServiceEnv<'a, S, N> {
     // What becomes of articles that are missing.
     fn rule(&self) -> SpoolRule<'a> {
         SpoolRule {
@@ -61,7 +61,7 @@ impl<'a, S: SpoolDirectory, N: Naming> ServiceEnv<'a, S, N> {
 ///
 /// # Errors
 /// The post's fault, if no flush helps.
-pub(crate) fn service<D: Disk, N: Naming, S: SpoolDirectory, R: Wait + Log, P: Pace>(
+pub(crate) fn service<D: Disk, N: Naming, S: ArticleSource, R: Wait + Log, P: Pace>(
     connection: &mut PeerConnection,
     rt: &R,
     view: &PostView<'_, D, N, P>,
@@ -83,7 +83,7 @@ pub(crate) fn service<D: Disk, N: Naming, S: SpoolDirectory, R: Wait + Log, P: P
 ///
 /// # Errors
 /// The post's fault, if no flush helps; the connection keeps the outcome.
-pub(crate) fn settle<D: Disk, N: Naming, S: SpoolDirectory, R: Wait + Log, P: Pace>(
+pub(crate) fn settle<D: Disk, N: Naming, S: ArticleSource, R: Wait + Log, P: Pace>(
     connection: &mut PeerConnection,
     rt: &R,
     view: &PostView<'_, D, N, P>,
@@ -103,7 +103,7 @@ pub(crate) fn settle<D: Disk, N: Naming, S: SpoolDirectory, R: Wait + Log, P: Pa
 
 // Takes an outcome to the station. The debt at which the connection failed is put off, and so is one whose article is
 // missing and kept.
-fn settle_one<D: Disk, N: Naming, S: SpoolDirectory, R: Wait + Log, P: Pace>(
+fn settle_one<D: Disk, N: Naming, S: ArticleSource, R: Wait + Log, P: Pace>(
     connection: &mut PeerConnection,
     rt: &R,
     view: &PostView<'_, D, N, P>,
@@ -126,7 +126,7 @@ fn settle_one<D: Disk, N: Naming, S: SpoolDirectory, R: Wait + Log, P: Pace>(
 }
 
 // Takes an outcome to the station as it is. What ends a debt ends what is remembered of it.
-fn finish<D: Disk, N: Naming, S: SpoolDirectory, R: Wait + Log, P: Pace>(
+fn finish<D: Disk, N: Naming, S: ArticleSource, R: Wait + Log, P: Pace>(
     connection: &mut PeerConnection,
     rt: &R,
     view: &PostView<'_, D, N, P>,
@@ -164,7 +164,7 @@ fn words_in(outcome: &Outcome) -> Option<(Token, MsgId)> {
 }
 
 // The debt of this key has ended: nothing is remembered of it.
-fn forget<S: SpoolDirectory, N: Naming, R: Wait>(
+fn forget<S: ArticleSource, N: Naming, R: Wait>(
     connection: &PeerConnection,
     rt: &R,
     env: &mut ServiceEnv<'_, S, N>,
@@ -176,7 +176,7 @@ fn forget<S: SpoolDirectory, N: Naming, R: Wait>(
 
 // Until when the debt of this outcome is to be put off, because the connection failed at it; `None` if it is not. In
 // both cases such a debt is a suspect from then on, unless only the spool is at fault.
-fn judge<S: SpoolDirectory, N: Naming, R: Wait>(
+fn judge<S: ArticleSource, N: Naming, R: Wait>(
     connection: &mut PeerConnection,
     rt: &R,
     now: u64,
@@ -197,7 +197,7 @@ fn judge<S: SpoolDirectory, N: Naming, R: Wait>(
 }
 
 // Drops a debt whose article is missing or cannot be sent, logs that, and counts it.
-fn lose<D: Disk, N: Naming, S: SpoolDirectory, R: Wait + Log, P: Pace>(
+fn lose<D: Disk, N: Naming, S: ArticleSource, R: Wait + Log, P: Pace>(
     connection: &mut PeerConnection,
     rt: &R,
     view: &PostView<'_, D, N, P>,
@@ -227,7 +227,7 @@ fn lose<D: Disk, N: Naming, S: SpoolDirectory, R: Wait + Log, P: Pace>(
 }
 
 // Puts off a debt whose article is missing and kept.
-fn keep<D: Disk, N: Naming, S: SpoolDirectory, R: Wait + Log, P: Pace>(
+fn keep<D: Disk, N: Naming, S: ArticleSource, R: Wait + Log, P: Pace>(
     connection: &PeerConnection,
     rt: &R,
     view: &PostView<'_, D, N, P>,
@@ -294,7 +294,7 @@ fn retry_later(connection: &mut PeerConnection, fault: FeederFault) -> Result<()
 
 // Offers debts, hands in articles and sends, in rounds: once there is enough output it is sent before another article
 // is read.
-fn fill_and_send<D: Disk, N: Naming, S: SpoolDirectory, R: Wait + Log, P: Pace>(
+fn fill_and_send<D: Disk, N: Naming, S: ArticleSource, R: Wait + Log, P: Pace>(
     connection: &mut PeerConnection,
     rt: &R,
     view: &PostView<'_, D, N, P>,
@@ -322,7 +322,7 @@ fn fill_and_send<D: Disk, N: Naming, S: SpoolDirectory, R: Wait + Log, P: Pace>(
 }
 
 // Claims debts and offers them, while the connection takes them and none was refused.
-fn offer<D: Disk, N: Naming, S: SpoolDirectory, R: Wait + Log, P: Pace>(
+fn offer<D: Disk, N: Naming, S: ArticleSource, R: Wait + Log, P: Pace>(
     connection: &mut PeerConnection,
     rt: &R,
     view: &PostView<'_, D, N, P>,
@@ -354,7 +354,7 @@ fn is_ready<D: Disk, N: Naming, P: Pace>(
 
 // In the last stage: claims and offers the pending suspect with the least place, and nothing else while the connection
 // holds it, so that it is known at which one a connection fails.
-fn offer_suspects<D: Disk, N: Naming, S: SpoolDirectory, R: Wait + Log, P: Pace>(
+fn offer_suspects<D: Disk, N: Naming, S: ArticleSource, R: Wait + Log, P: Pace>(
     connection: &mut PeerConnection,
     rt: &R,
     view: &PostView<'_, D, N, P>,
@@ -380,7 +380,7 @@ fn offer_suspects<D: Disk, N: Naming, S: SpoolDirectory, R: Wait + Log, P: Pace>
 }
 
 // Offers a debt that was claimed, or puts it off.
-fn offer_or_put_off<D: Disk, N: Naming, S: SpoolDirectory, R: Wait + Log, P: Pace>(
+fn offer_or_put_off<D: Disk, N: Naming, S: ArticleSource, R: Wait + Log, P: Pace>(
     connection: &mut PeerConnection,
     rt: &R,
     view: &PostView<'_, D, N, P>,

@@ -3,7 +3,7 @@ use crate::post_view::PostView;
 use crate::service::settle;
 use crate::uptime::Uptime;
 use crate::{Feeder, FeederFault};
-use article_store::SpoolDirectory;
+use connections::ArticleSource;
 use disk_model::Disk;
 use flusher::{Naming, Pace, Post, Signals};
 use log::Log;
@@ -16,7 +16,7 @@ const GOODBYE_MAX_MS: u64 = 1_000;
 
 const GOODBYE_SLEEP_MAX_MS: u64 = 50;
 
-impl<S: SpoolDirectory + Drop, C: Net + Drop, N: Naming> Feeder<S, C, N> {
+impl<S: ArticleSource + Drop, C: Net + Drop, N: Naming> Feeder<S, C, N> {
     /// Ends all connections in good order, as far as their peers answer within a second. What is still held goes back.
     /// If articles were missing and none was found, the last feeder has the spool among what could not be read.
     pub(crate) fn shut_down<D: Disk, R: Wait + Clock + Log, P: Pace>(

@@ -1,9 +1,8 @@
 // What a feeder logs of peers that are down, in a run that goes on until it is ended.
 use crate::Feeder;
 use crate::peer_state::name_of;
-use article_store::SpoolDirectory;
-use connections::PeerConnection;
 use connections::logging::{HowOver, log_down, log_up, text_of};
+use connections::{ArticleSource, PeerConnection};
 use flusher::Naming;
 use log::Log;
 use std::io;
@@ -18,7 +17,7 @@ pub(crate) struct UntoldOutage {
     pub reason: String,
 }
 
-impl<S: SpoolDirectory + Drop, C: Net + Drop, N: Naming> Feeder<S, C, N> {
+impl<S: ArticleSource + Drop, C: Net + Drop, N: Naming> Feeder<S, C, N> {
     /// The peer of this connection has agreed to a mode. If it was told to be down, it is told to be up again.
     pub(crate) fn note_agreed<R: Wait + Log>(&self, rt: &R, key: usize) {
         if let Some(connection) = self.connections.get(key)
