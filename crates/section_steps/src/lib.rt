@@ -11,5 +11,4 @@ pub mod ends;
 pub mod fronts;
 pub mod receipts;
 pub mod runs;
-pub mod says;
 pub mod sides;

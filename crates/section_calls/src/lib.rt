@@ -1,5 +1,9 @@
-//! That the laws begin from what the calls say: each function here makes one call, of a sender, of a side or of the
-//! intake's tape, and its contract is the record from which a law begins.
+//! That the laws of `section_steps` begin from what calls say: each function here makes one call, of a sender, of a
+//! side or of the intake's tape, and its contract is the record from which a law begins.
+//!
+//! Nothing stands on it, and nothing runs it.
+#![tactic(auto)]
+
 ghost use Rattle.std.specs.Prelude.{true};
 ghost use Rattle.note_queue.specs.Relay.{IsAt};
 ghost use Rattle.note_queue.specs.Words.{sending, taking};
