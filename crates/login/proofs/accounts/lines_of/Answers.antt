@@ -1,0 +1,13 @@
+-- The text is cut at each LF.
+use Rattle.std.proofs.Common.{◌==◌, rules}
+use Rattle.std.proofs.lemmas.Iterator.Consumers.{map_from_collect}
+use Rattle.std.proofs.lemmas.Iterator.Splits.{YieldsList-from_slice_split}
+use Rattle.login.proofs.accounts.lines_of.Goals as goal
+use borrow.Author.Tests.{tests}
+
+pub returns : goal.returns
+returns c =
+    map_from_collect _ c.collect.ensures.ran
+    (YieldsList-from_slice_split _ (λ octet. octet == 10) c.args.text.now
+    c.split.ensures.rest c.split.ensures.done c.split.ensures.closure
+    (λ x b q k. search (rules, tests)))

@@ -1,0 +1,4 @@
+pub mod Steps
+pub mod Exchange
+pub mod Account
+pub mod Accounts
