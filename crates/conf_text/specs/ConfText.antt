@@ -44,13 +44,27 @@ abbrev pub sync_text : (on : Bool) → List ℕ
 sync_text false = []
 sync_text true = line outside (codes "sync-spool") (switch_value true)
 
+-- every how many seconds the state of the peers is written, unless it is the default
+abbrev pub period_text : (period : ℕ) → List ℕ
+period_text period = if period == 60 then [] else line outside (codes "status-period") (decimal period)
+
 -- the settings of innd's spool: its paths if they are given, and whether its CNFS buffers are synced if they are
 abbrev pub innd_text : Outcome → List ℕ
 innd_text outcome =
     path_text (codes "innd-spool") outcome.innd_spool ++ path_text (codes "innd-cycbuffs") outcome.innd_cycbuffs
     ++ sync_text outcome.sync_spool
 
--- the settings of the file, without those of innd's spool
+-- the file of accounts at peers, if it is given
+abbrev pub login_text : Outcome → List ℕ
+login_text outcome = path_text (codes "authinfo-file") outcome.authinfo_file
+
+-- the settings of the peers' state: its files if they are given, and when they are written unless it is the default
+abbrev pub state_text : Outcome → List ℕ
+state_text outcome =
+    path_text (codes "status-json") outcome.status_json ++ path_text (codes "metrics-file") outcome.metrics_file
+    ++ period_text outcome.status_period
+
+-- the settings of the file that are always printed
 abbrev pub file_text : Outcome → List ℕ
 file_text outcome =
     line outside (codes "news-spool") (text_value outcome.news_spool)
@@ -114,4 +128,6 @@ peer_text peer = head_text peer.name ++ connections_text peer ++ check_text peer
 
 -- The settings of the file, each with its value in force, and then each peer's block with all its settings.
 abbrev pub conf_text : Outcome → List ℕ
-conf_text outcome = file_text outcome ++ innd_text outcome ++ flat_map peer_text outcome.peers
+conf_text outcome =
+    file_text outcome ++ innd_text outcome ++ login_text outcome ++ state_text outcome
+    ++ flat_map peer_text outcome.peers

@@ -1,7 +1,8 @@
 // The settings of the file, and its peers.
 ghost use Rattle.std.specs.Prelude.{◌≡◌, ◌++◌, IfOk, OnOk, flat_map, map};
 ghost use Rattle.std.specs.Option.{option_map};
-ghost use Rattle.conf_text.specs.ConfText.{conf_text, file_text, innd_text, path_text, peer_text, sync_text};
+ghost use Rattle.conf_text.specs.ConfText.{conf_text, file_text, innd_text, login_text, path_text, peer_text};
+ghost use Rattle.conf_text.specs.ConfText.{period_text, state_text, sync_text};
 ghost use Rattle.feed_conf.specs.ConfView.{conf_view};
 ghost use Rattle.feed_conf.specs.PeerView.{settings_view};
 
@@ -21,6 +22,8 @@ pub fn conf_text(alloc: Global, conf: &Conf) -> Result<Vec<u8>, AllocError>
     let mut text = Vec::new(alloc);
     add_file(&mut text, conf)?;
     add_innd(&mut text, conf)?;
+    add_login(&mut text, conf)?;
+    add_state(&mut text, conf)?;
     add_peers(&mut text, conf.peers())?;
     Ok(text)
 }
@@ -44,6 +47,22 @@ fn add_innd(out: &mut Vec<u8>, conf: &Conf) -> Result<(), AllocError>
     Ok(())
 }
 
+fn add_login(out: &mut Vec<u8>, conf: &Conf) -> Result<(), AllocError>
+    ensures { OnOk result (out.new.items ≡ out.old.items ++ login_text (conf_view conf.now)) }
+{
+    add_path(out, b"authinfo-file", conf.authinfo_file())?;
+    Ok(())
+}
+
+fn add_state(out: &mut Vec<u8>, conf: &Conf) -> Result<(), AllocError>
+    ensures { OnOk result (out.new.items ≡ out.old.items ++ state_text (conf_view conf.now)) }
+{
+    add_path(out, b"status-json", conf.status_json())?;
+    add_path(out, b"metrics-file", conf.metrics_file())?;
+    add_period(out, conf.status_period())?;
+    Ok(())
+}
+
 // A path, if it is given.
 fn add_path(out: &mut Vec<u8>, key: &[u8], path: Option<&[u8]>) -> Result<(), AllocError>
     ensures { OnOk result (out.new.items
@@ -63,6 +82,17 @@ fn add_sync(out: &mut Vec<u8>, on: bool) -> Result<(), AllocError>
         add_switch(out, b"", b"sync-spool", on)
     } else {
         Ok(())
+    }
+}
+
+// Every how many seconds the state of the peers is written, unless it is the default.
+fn add_period(out: &mut Vec<u8>, period: u64) -> Result<(), AllocError>
+    ensures { OnOk result (out.new.items ≡ out.old.items ++ period_text period) }
+{
+    if period == 60 {
+        Ok(())
+    } else {
+        add_number(out, b"", b"status-period", period)
     }
 }
 

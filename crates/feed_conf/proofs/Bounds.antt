@@ -25,6 +25,7 @@ use Rattle.feed_conf.specs.declared.key.SettingKey.TheVariants.{BacklogLimit, Ba
 use Rattle.feed_conf.specs.declared.key.SettingKey.TheVariants.{NewsSpool}
 use Rattle.feed_conf.specs.declared.key.SettingKey.TheVariants.{BacklogDirectory, StatusFile, UnknownLimit}
 use Rattle.feed_conf.specs.declared.key.SettingKey.TheVariants.{InndSpool, InndCycbuffs, SyncSpool}
+use Rattle.feed_conf.specs.declared.key.SettingKey.TheVariants.{AuthinfoFile, StatusJson, MetricsFile, StatusPeriod}
 use Rattle.feed_conf.specs.declared.key.Kind.{Kind}
 use Rattle.feed_conf.specs.declared.key.Kind.TheVariants.{AnyText, ShortText, Switch, Connections, Number, Whole}
 use Rattle.feed_conf.specs.declared.key.Kind.TheVariants.{Fraction}
@@ -259,6 +260,10 @@ index-key UnknownLimit = refl
 index-key InndSpool = refl
 index-key InndCycbuffs = refl
 index-key SyncSpool = refl
+index-key AuthinfoFile = refl
+index-key StatusJson = refl
+index-key MetricsFile = refl
+index-key StatusPeriod = refl
 
 -- no two keys have one index
 index-once : (one other : SettingKey) → (row_of one).index ≡ (row_of other).index → one ≡ other
@@ -289,6 +294,10 @@ default-within UnknownLimit name = omega arith
 default-within InndSpool name = omega arith
 default-within InndCycbuffs name = omega arith
 default-within SyncSpool name = omega arith
+default-within AuthinfoFile name = omega arith
+default-within StatusJson name = omega arith
+default-within MetricsFile name = omega arith
+default-within StatusPeriod name = omega arith
 
 -- the value, if there is one, is at most the greatest of the key
 abbrev IsWithin : SettingKey → Option Value → Type 0

@@ -18,6 +18,10 @@ conf_view conf = record {
   innd_spool = path_in conf.innd_spool.items;
   innd_cycbuffs = path_in conf.innd_cycbuffs.items;
   sync_spool = conf.sync_spool;
+  authinfo_file = path_in conf.authinfo_file.items;
+  status_json = path_in conf.status_json.items;
+  metrics_file = path_in conf.metrics_file.items;
+  status_period = conf.status_period;
   peers = map settings_view conf.peers.items;
   reports = map report_view conf.ignored.items;
 }

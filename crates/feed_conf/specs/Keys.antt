@@ -11,6 +11,7 @@ use Rattle.feed_conf.specs.declared.key.SettingKey.TheVariants.{MaxReconnectTime
 use Rattle.feed_conf.specs.declared.key.SettingKey.TheVariants.{BacklogLimitHighwater, BacklogFactor, NewsSpool}
 use Rattle.feed_conf.specs.declared.key.SettingKey.TheVariants.{BacklogDirectory, StatusFile, UnknownLimit}
 use Rattle.feed_conf.specs.declared.key.SettingKey.TheVariants.{InndSpool, InndCycbuffs, SyncSpool}
+use Rattle.feed_conf.specs.declared.key.SettingKey.TheVariants.{AuthinfoFile, StatusJson, MetricsFile, StatusPeriod}
 use Rattle.feed_conf.specs.declared.key.Kind.{Kind}
 use Rattle.feed_conf.specs.declared.key.Kind.TheVariants.{AnyText, ShortText, Switch, Connections, Number, Whole, Fraction}
 
@@ -51,13 +52,26 @@ row_of InndCycbuffs =
     record { index = 20; name = codes "innd-cycbuffs"; kind = AnyText; of_file = true; default = λ peer. TextOf [] }
 row_of SyncSpool =
     record { index = 21; name = codes "sync-spool"; kind = Switch; of_file = true; default = λ peer. SwitchOf false }
+row_of AuthinfoFile =
+    record { index = 22; name = codes "authinfo-file"; kind = AnyText; of_file = true; default = λ peer. TextOf [] }
+row_of StatusJson =
+    record { index = 23; name = codes "status-json"; kind = AnyText; of_file = true; default = λ peer. TextOf [] }
+row_of MetricsFile =
+    record { index = 24; name = codes "metrics-file"; kind = AnyText; of_file = true; default = λ peer. TextOf [] }
+row_of StatusPeriod = record {
+  index = 25;
+  name = codes "status-period";
+  kind = Number 1 86400;
+  of_file = true;
+  default = λ peer. NumberOf 60;
+}
 
 abbrev pub all_keys : List SettingKey
 all_keys =
     IpName ∷ PortNumber ∷ Streaming ∷ MaxConnections ∷ MaxQueueSize ∷ NoCheckHigh ∷ NoCheckLow ∷ NoCheckFilter
     ∷ ResponseTimeout ∷ InitialReconnectTime ∷ MaxReconnectTime ∷ DropDeferred ∷ BacklogLimit ∷ BacklogLimitHighwater
     ∷ BacklogFactor ∷ NewsSpool ∷ BacklogDirectory ∷ StatusFile ∷ UnknownLimit ∷ InndSpool ∷ InndCycbuffs ∷ SyncSpool
-    ∷ []
+    ∷ AuthinfoFile ∷ StatusJson ∷ MetricsFile ∷ StatusPeriod ∷ []
 
 abbrev pub key_of : List ℕ → Option SettingKey
 key_of name = find (λ key. bytes_eq (row_of key).name name) all_keys

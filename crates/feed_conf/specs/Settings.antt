@@ -17,6 +17,7 @@ use Rattle.feed_conf.specs.declared.key.SettingKey.TheVariants.{BacklogLimit, Ba
 use Rattle.feed_conf.specs.declared.key.SettingKey.TheVariants.{NewsSpool}
 use Rattle.feed_conf.specs.declared.key.SettingKey.TheVariants.{BacklogDirectory, StatusFile, UnknownLimit}
 use Rattle.feed_conf.specs.declared.key.SettingKey.TheVariants.{InndSpool, InndCycbuffs, SyncSpool}
+use Rattle.feed_conf.specs.declared.key.SettingKey.TheVariants.{AuthinfoFile, StatusJson, MetricsFile, StatusPeriod}
 use Rattle.feed_conf.specs.declared.fault.ConfFault.{ConfFault}
 use Rattle.feed_conf.specs.declared.fault.ConfFaultKind.TheVariants.{LowAboveHigh, NoCycbuffs}
 
@@ -161,6 +162,12 @@ pub record Outcome : Type 0 where
   pub innd_cycbuffs : Option (List ℕ)
   -- whether innd's CNFS buffers are synced before lines are acknowledged
   pub sync_spool : Bool
+  -- the file of accounts at peers, if it is given
+  pub authinfo_file : Option (List ℕ)
+  -- the files into which the state of all peers is written, if they are given, and every how many seconds that is
+  pub status_json : Option (List ℕ)
+  pub metrics_file : Option (List ℕ)
+  pub status_period : ℕ
   -- the peers in the order of their declarations
   pub peers : List Settings
   -- what is ignored or limited, in reading order
@@ -175,6 +182,10 @@ outcome_of state = record {
   innd_spool = path_in (text (value_in_file state.uses InndSpool));
   innd_cycbuffs = path_in (text (value_in_file state.uses InndCycbuffs));
   sync_spool = switch (value_in_file state.uses SyncSpool);
+  authinfo_file = path_in (text (value_in_file state.uses AuthinfoFile));
+  status_json = path_in (text (value_in_file state.uses StatusJson));
+  metrics_file = path_in (text (value_in_file state.uses MetricsFile));
+  status_period = number (value_in_file state.uses StatusPeriod);
   peers = map (settings_of state.uses state.outer) state.peers;
   reports = state.reports;
 }

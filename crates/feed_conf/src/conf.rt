@@ -65,6 +65,11 @@ pub struct Conf {
     pub(crate) innd_spool: Vec<u8>,
     pub(crate) innd_cycbuffs: Vec<u8>,
     pub(crate) sync_spool: bool,
+    // Empty if it is not given, as are the next two.
+    pub(crate) authinfo_file: Vec<u8>,
+    pub(crate) status_json: Vec<u8>,
+    pub(crate) metrics_file: Vec<u8>,
+    pub(crate) status_period: u64,
     pub(crate) peers: Vec<PeerConf>,
     pub(crate) ignored: Vec<Ignored>,
     pub(crate) names: BTreeMap<String, usize>,
@@ -170,5 +175,33 @@ impl Conf {
         ensures { result ≡ (conf_view self.now).sync_spool }
     {
         self.sync_spool
+    }
+
+    /// The file of the accounts by which peers are logged in to (AUTHINFO, RFC 4643), if it is given and not empty.
+    pub fn authinfo_file(&self) -> Option<&[u8]>
+        ensures { option_map (λ path. path.now) result ≡ (conf_view self.now).authinfo_file }
+    {
+        path_in(&self.authinfo_file)
+    }
+
+    /// The file into which the state of all peers is written as one JSON object, if it is given and not empty.
+    pub fn status_json(&self) -> Option<&[u8]>
+        ensures { option_map (λ path. path.now) result ≡ (conf_view self.now).status_json }
+    {
+        path_in(&self.status_json)
+    }
+
+    /// The file into which the same is written in Prometheus' text format, if it is given and not empty.
+    pub fn metrics_file(&self) -> Option<&[u8]>
+        ensures { option_map (λ path. path.now) result ≡ (conf_view self.now).metrics_file }
+    {
+        path_in(&self.metrics_file)
+    }
+
+    /// Every how many seconds those two files are written.
+    pub fn status_period(&self) -> u64
+        ensures { result ≡ (conf_view self.now).status_period }
+    {
+        self.status_period
     }
 }

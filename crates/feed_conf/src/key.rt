@@ -74,9 +74,17 @@ pub(crate) enum SettingKey {
     InndCycbuffs,
     /// Whether innd's CNFS buffers are synced before lines are acknowledged.
     SyncSpool,
+    /// The file of the accounts by which the feeder logs in to peers.
+    AuthinfoFile,
+    /// The file into which the state of all peers is written as JSON.
+    StatusJson,
+    /// The file into which it is written in Prometheus' text format.
+    MetricsFile,
+    /// Every how many seconds these two are written.
+    StatusPeriod,
 }
 
-const KEYS: [SettingKey; 22] = [
+const KEYS: [SettingKey; 26] = [
     SettingKey::IpName,
     SettingKey::PortNumber,
     SettingKey::Streaming,
@@ -99,6 +107,10 @@ const KEYS: [SettingKey; 22] = [
     SettingKey::InndSpool,
     SettingKey::InndCycbuffs,
     SettingKey::SyncSpool,
+    SettingKey::AuthinfoFile,
+    SettingKey::StatusJson,
+    SettingKey::MetricsFile,
+    SettingKey::StatusPeriod,
 ];
 
 #[derive(Clone, Copy)]
@@ -254,6 +266,10 @@ impl SettingKey {
             SettingKey::InndSpool => file_text(19, b"innd-spool", b""),
             SettingKey::InndCycbuffs => file_text(20, b"innd-cycbuffs", b""),
             SettingKey::SyncSpool => file_switch(21, b"sync-spool", false),
+            SettingKey::AuthinfoFile => file_text(22, b"authinfo-file", b""),
+            SettingKey::StatusJson => file_text(23, b"status-json", b""),
+            SettingKey::MetricsFile => file_text(24, b"metrics-file", b""),
+            SettingKey::StatusPeriod => file_number(25, b"status-period", SECONDS, 60),
         }
     }
 

@@ -50,16 +50,11 @@ fn make_conf(alloc: Global, reader: Reader<'_>) -> Result<Conf, ConfFault>
     let innd_cycbuffs = table.file_text(alloc, SettingKey::InndCycbuffs)?;
     let sync_spool = table.file_switch(SettingKey::SyncSpool);
     check_sync(&reader.uses, sync_spool, &innd_cycbuffs)?;
-    let Reader {
-        alloc: _,
-        around: _,
-        opened: _,
-        outer: _,
-        uses: _,
-        peers: _,
-        ignored,
-        names,
-    } = reader;
+    let authinfo_file = table.file_text(alloc, SettingKey::AuthinfoFile)?;
+    let status_json = table.file_text(alloc, SettingKey::StatusJson)?;
+    let metrics_file = table.file_text(alloc, SettingKey::MetricsFile)?;
+    let status_period = table.file_number(SettingKey::StatusPeriod);
+    let Reader { ignored, names, .. } = reader;
     Ok(Conf {
         news_spool,
         backlog_directory,
@@ -68,6 +63,10 @@ fn make_conf(alloc: Global, reader: Reader<'_>) -> Result<Conf, ConfFault>
         innd_spool,
         innd_cycbuffs,
         sync_spool,
+        authinfo_file,
+        status_json,
+        metrics_file,
+        status_period,
         peers,
         ignored,
         names,
