@@ -16,6 +16,7 @@ use Rattle.event_loop.specs.Chain.{Input, Is_received, Is_refused, TakesIn, afte
 use Rattle.event_loop.specs.declared.moved.Moved.{Moved}
 use Rattle.event_loop.specs.declared.moved.Moved.TheVariants.{Done, Later, Closed, Fault}
 use Rattle.connections.specs.Articles.{GoesOn, HandsInNothing, IsNoArticle}
+use Rattle.connections.specs.Logins.{IsGiven}
 use Rattle.connections.proofs.Articles.{Follows, follows-after, follows-outside, goes_on}
 
 follows-self : (h : List Event) → Follows h h
@@ -132,3 +133,22 @@ pub receipt_nothing : (made : Moved) (octets : List ℕ) (old new : Holding)
 receipt_nothing made octets old new stands = λ options unread h s.
     let r = stands options unread h s in
     goes_on options h r.1 r.0 new r.2 (takes-follows options made octets unread h r.0 r.1 r.3)
+
+-- octets that it is given as those that came
+pub given_octets : {E : Type 0} (result : Result (Unit {0}) E) (octets : List ℕ) (old new : Holding)
+    → OnOk result ((options : Options) (unread : List ℕ) (h : List Event) → StandsFor options old unread h
+    → (later : List Event) × (left : List ℕ) × Receives options (unread ++ octets) h later left
+    × StandsFor options new left later)
+    → OnErr result ((options : Options) (unread : List ℕ) (h : List Event) → StandsFor options old unread h
+    → (later : List Event) × ReceivesSome options (unread ++ octets) h later
+    × StandsFor options new [] (after options later Broke))
+    → IsGiven octets old new
+given_octets (Ok done) octets old new ok err = λ options unread h s.
+    let r = ok options unread h s in (r.1, (r.0, (r.3, Is_received r.0 r.1 r.2)))
+given_octets (Err refused) octets old new ok err = λ options unread h s.
+    let r = err options unread h s in ([], (after options r.0 Broke, (r.2, Is_refused r.0 r.1)))
+
+pub given_nothing : (octets : List ℕ) (old new : Holding) → IsGiven octets old new → HandsInNothing old new
+given_nothing octets old new given = λ options unread h s.
+    let r = given options unread h s in
+    goes_on options h r.1.0 r.0 new r.1.1.0 (input-follows options (unread ++ octets) r.0 h r.1.0 r.1.1.1)

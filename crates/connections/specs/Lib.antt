@@ -1,8 +1,10 @@
 pub mod Articles
 pub mod Blame
+pub mod Counted
 pub mod Dropped
 pub mod Given
 pub mod Kept
+pub mod Logins
 pub mod Missing
 pub mod Reach
 pub mod Slots

@@ -1,6 +1,7 @@
 // Why a connection closed, in words.
 use crate::descriptors::{LackedBy, lack_of};
 use crate::line_head::SHOWN_MAX_OCTETS;
+use crate::login_failure::LoginFailure;
 use conn_core::Reason;
 use reply_reader::Reply;
 use std::alloc::Global;
@@ -17,6 +18,8 @@ pub(crate) enum ObservedEnd {
     Fault(io::Error),
     /// The peer sent this, which is no reply.
     InvalidReply(Vec<u8>),
+    /// The login failed.
+    Login(LoginFailure),
     /// An article could not be read, for this reason.
     Unread(Option<io::Error>),
     /// The directory of the articles is not there.
@@ -60,7 +63,7 @@ pub(crate) fn begins_with_code(line: &[u8]) -> bool {
 }
 
 // The first octets.
-fn shortened(octets: &[u8]) -> &[u8] {
+pub(crate) fn shortened(octets: &[u8]) -> &[u8] {
     octets.get(..SHOWN_MAX_OCTETS).unwrap_or(octets)
 }
 
@@ -69,6 +72,10 @@ fn shortened(octets: &[u8]) -> &[u8] {
 pub(crate) enum SessionStage {
     /// Before the greeting.
     Greeting,
+    /// Before the reply to AUTHINFO USER.
+    User,
+    /// Before the reply to AUTHINFO PASS.
+    Password,
     /// Before the reply to MODE STREAM.
     Mode,
     Streaming,
@@ -79,6 +86,8 @@ impl Display for SessionStage {
     fn fmt<W: Write>(&self, f: &mut Formatter<W>) -> fmt::Result {
         f.write_str(match self {
             SessionStage::Greeting => "at the greeting",
+            SessionStage::User => "at AUTHINFO USER",
+            SessionStage::Password => "at AUTHINFO PASS",
             SessionStage::Mode => "at MODE STREAM",
             SessionStage::Streaming => "while streaming",
             SessionStage::Ihave => "while feeding by IHAVE",
@@ -106,6 +115,7 @@ impl Display for CloseReason<'_> {
             (ObservedEnd::NoSpool, _) => f.write_str("the directory of articles is missing"),
             (ObservedEnd::NoneFound, _) => f.write_str("news-spool has none of its articles"),
             (ObservedEnd::ByUs, _) => f.write_str("given up here"),
+            (ObservedEnd::Login(failure), _) => write!(f, "{failure}"),
             (ObservedEnd::Fault(error), Some(Reason::Broken)) => write!(f, "{error}"),
             (ObservedEnd::ByPeer, Some(Reason::Broken)) => f.write_str("the peer closed it"),
             (ObservedEnd::InvalidReply(line), Some(reason)) => {
@@ -129,7 +139,7 @@ impl Display for CloseReason<'_> {
 
 // The first octets of what a peer sent, with a dot for each that is not printable ASCII.
 #[derive(Clone, Copy)]
-struct Shown<'a>(&'a [u8]);
+pub(crate) struct Shown<'a>(pub &'a [u8]);
 
 impl Display for Shown<'_> {
     fn fmt<W: Write>(&self, f: &mut Formatter<W>) -> fmt::Result {

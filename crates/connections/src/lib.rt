@@ -7,13 +7,16 @@
 //! when a suspect is offered, and when a peer counts as down. Each of these has a contract (`specs/`).
 #![tactic(auto)]
 
+mod answer_counts;
 mod article_source;
 mod blame;
 mod close_reason;
+mod conn_calls;
 mod debt_texts;
 mod deferrals;
 mod descriptors;
 mod drop_count;
+mod feeder_parts;
 mod feeder_spool;
 mod given_outcome;
 mod kept_texts;
@@ -21,6 +24,8 @@ mod large_rooms;
 mod last_stage;
 mod line_head;
 pub mod logging;
+mod login_failure;
+mod login_stage;
 mod missing;
 mod outages;
 mod peer_connection;
@@ -38,6 +43,7 @@ pub use article_source::{ArticleSource, texts_are_of_their_debts};
 pub use debt_texts::texts_of;
 pub use deferrals::Deferrals;
 pub use drop_count::DroppedArticle;
+pub use feeder_parts::FeederParts;
 pub use feeder_spool::FeederSpool;
 pub use given_outcome::{GivenOutcome, ReturnTicket};
 pub use large_rooms::LargeRooms;

@@ -71,7 +71,7 @@ impl Display for HowOver<'_> {
                 address,
                 connection.stage(),
                 connection.close_reason(),
-                advice(reason)
+                advice(reason, connection.has_account())
             ),
             None => Ok(()),
         }
@@ -117,12 +117,16 @@ pub fn log_stopped<R: Log>(rt: &R, name: &str, why: &str) {
     info!(rt; "{}: gets no more articles in this run: {}", name, why);
 }
 
-// What is to be done about the code that ended a session (RFC 3977, section 3.2.1).
-fn advice(reason: Reason) -> &'static str {
+// What is to be done about the code that ended a session (RFC 3977, section 3.2.1) with a peer that has an account or
+// none.
+fn advice(reason: Reason, has_account: bool) -> &'static str {
     match reason {
         Reason::Greeting(400) | Reason::Ended(400) => ", it takes no articles for now",
+        Reason::Greeting(480) | Reason::Ended(480) if has_account =>
+            ", the account in authinfo-file may not feed it: ask its administrator",
         Reason::Greeting(480) | Reason::Ended(480) =>
-            ", authentication is required and not supported: ask the peer to allow this host by address",
+            ", authentication is required: give authinfo-file a line for its host, \
+            or ask the peer to allow this host by address",
         Reason::Greeting(502) | Reason::Ended(502) =>
             ", this host may not feed it: ask its administrator",
         _ => "",

@@ -1,41 +1,37 @@
 // One connection: its protocol state, its socket, and what it holds.
-ghost use Rattle.std.specs.Prelude.{◌≡◌, ◌++◌, ◌<◌, ◌≤◌, ◌/◌, IsSome, None, Some};
+ghost use Rattle.std.specs.Prelude.{◌≡◌, ◌++◌, IsSome, None, Some};
 ghost use Rattle.conn_core.specs.State.{untold_at};
-ghost use Rattle.connections.specs.Articles.{AllStayFound, HandsInNothing, IsFoundFor, MayHandIn};
+ghost use Rattle.connections.specs.Articles.{HandsInNothing};
+ghost use Rattle.connections.specs.Counted.{counts_after};
 ghost use Rattle.connections.specs.Given.{outcomes_in};
+ghost use Rattle.peer_counts.specs.Counts.{no_counts};
 
-use crate::article_source::ArticleSource;
+mod exchange;
+mod handing;
+
+use crate::answer_counts::{count_of, made_once, offered_once};
 use crate::blame::{Blame, ConnectionEnd};
-use crate::close_reason::{CloseReason, ObservedEnd, SessionStage, begins_with_code};
+use crate::close_reason::{CloseReason, ObservedEnd, SessionStage};
+use crate::conn_calls::{break_conn, offer_to, quit_conn};
 use crate::deferrals::Deferrals;
-use crate::descriptors::unread_article;
-use crate::feeder_spool::FeederSpool;
 use crate::given_outcome::GivenOutcome;
 use crate::large_rooms::LargeRooms;
 use crate::last_stage::failed_until;
 use crate::line_head::LineHead;
-use crate::logging::log_unread;
+use crate::login_stage::LoginStage;
 use crate::setbacks::{Failure, Setbacks};
-use crate::spool_tally::SpoolRule;
-use crate::unread_paths::UnreadPaths;
-use article_store::{Found, SpoolDirectory, StoreFault, Unsendable};
-use conn_core::{Back, Conn, CxnId, Mode, Outcome, Ready, Reason};
-use conn_laws::articles::articles_are_of_their_debts;
-use event_loop::{Moved, SocketLink, put_out, take_in};
-use funnel::{MsgId, Token};
+use article_store::Unsendable;
+use conn_core::{Conn, CxnId, Mode, Outcome, Ready, Reason};
+use event_loop::SocketLink;
+use funnel::MsgId;
 use ledger_core::{Debt, Key};
-use log::Log;
+use login::{Login, LoginStep};
 use mio::event::Event;
-use std::alloc::{AllocError, Global};
+use peer_counts::PeerCounts;
+use std::alloc::Global;
 use std::io::{self, ErrorKind};
 use std::mem;
 use std::net::SocketAddr;
-
-// If so much output waits, it is sent before another article is read.
-const OUTPUT_ENOUGH_OCTETS: usize = 65_536;
-
-// How many calls of a socket are made in a row before other connections have their turn.
-const CALLS_MAX: u64 = 64;
 
 // How long a connection may hold nothing before it is left.
 const IDLE_MAX_SECONDS: u64 = 60;
@@ -73,6 +69,8 @@ pub struct PeerConnection {
     alloc: Global,
     conn: Conn,
     link: SocketLink,
+    // Its login. Its machine waits until that is accepted.
+    login: LoginStage,
     address: SocketAddr,
     owner: ConnectionOwner,
     // The second in which it was begun.
@@ -104,6 +102,8 @@ pub struct PeerConnection {
     kept: Option<GivenOutcome>,
     // What its peer deferred since `take_deferred`.
     deferred: Deferrals,
+    // What it has counted since `take_counts`.
+    counts: PeerCounts,
     // Since which second it has held nothing, once its peer has agreed to a mode.
     idle_since: Option<u64>,
     // With how many octets its output's room is counted among the large ones.
@@ -111,11 +111,12 @@ pub struct PeerConnection {
 }
 
 impl PeerConnection {
-    /// A connection to this address, begun in this second.
+    /// A connection to this address, begun in this second. If there is a login, it begins with that.
     pub fn new(
         alloc: Global,
         conn: Conn,
         link: SocketLink,
+        login: Option<Login>,
         address: SocketAddr,
         owner: ConnectionOwner,
         begun: u64,
@@ -124,6 +125,7 @@ impl PeerConnection {
             alloc,
             conn,
             link,
+            login: LoginStage::new(login),
             address,
             owner,
             begun,
@@ -142,6 +144,7 @@ impl PeerConnection {
             held: 0,
             kept: None,
             deferred: Deferrals::new(),
+            counts: PeerCounts::new(),
             idle_since: None,
             large_room: 0,
         }
@@ -178,6 +181,21 @@ impl PeerConnection {
     /// What its peer has deferred since the last call.
     pub fn take_deferred(&mut self) -> Deferrals {
         mem::replace(&mut self.deferred, Deferrals::new())
+    }
+
+    /// What it has counted since the last call.
+    pub fn take_counts(&mut self) -> PeerCounts
+        ensures taken { result ≡ self.old.counts }
+        ensures none { self.new ≡ record self.old { counts = no_counts } }
+    {
+        mem::replace(&mut self.counts, PeerCounts::new())
+    }
+
+    /// How many debts it holds.
+    pub fn held(&self) -> u64
+        ensures { result ≡ self.now.held }
+    {
+        self.held
     }
 
     /// Whether its peer's host accepted it.
@@ -268,7 +286,7 @@ impl PeerConnection {
     {
         self.is_dirty = true;
         self.tick_connecting(now);
-        tick_conn(&mut self.conn, now);
+        self.tick_session(now);
         self.idle_since = if self.agreed.is_none() || self.holds_debts() {
             None
         } else {
@@ -323,7 +341,11 @@ impl PeerConnection {
             return false;
         }
         self.agreed = self.conn.mode();
-        self.agreed.is_some()
+        if self.agreed.is_none() {
+            return false;
+        }
+        self.counts.add(&made_once());
+        true
     }
 
     /// The mode that its peer has agreed to, as `take_agreed` found it.
@@ -383,77 +405,6 @@ impl PeerConnection {
         }
     }
 
-    pub fn receive(&mut self, buffer: &mut [u8])
-        ensures { HandsInNothing self.old.conn self.new.conn }
-    {
-        for _ in 0..CALLS_MAX {
-            if self.conn.closed().is_some() {
-                return;
-            }
-            match receive_once(&mut self.conn, &mut self.link, buffer) {
-                Moved::Done(count) => self.on_received(buffer.get(..count).unwrap_or(&[])),
-                Moved::Later => return,
-                Moved::Closed => return self.end(ObservedEnd::ByPeer),
-                Moved::Fault => return self.fail_link(),
-            }
-        }
-        self.is_dirty = true;
-    }
-
-    // These octets were taken in.
-    fn on_received(&mut self, octets: &[u8])
-        ensures { self.new.conn ≡ self.old.conn }
-    {
-        match self.conn.closed() {
-            None => {
-                self.has_greeted = self.has_greeted || octets.contains(&b'\n');
-                self.line_head.add(octets);
-            }
-            Some(Reason::Reader(_)) => self.on_invalid(octets),
-            Some(Reason::Unmatched | Reason::Ended(_)) => self.has_greeted = true,
-            Some(_) => {}
-        }
-    }
-
-    // It closed because some of these octets, or of the line that they end, are no reply. Nothing more is known if
-    // memory is refused.
-    fn on_invalid(&mut self, octets: &[u8])
-        ensures { self.new.conn ≡ self.old.conn }
-    {
-        if let Ok(text) = joined(self.alloc, self.line_head.octets(), octets) {
-            self.has_greeted = self.has_greeted || begins_with_reply(&text);
-            self.end(ObservedEnd::invalid_reply(self.alloc, &text));
-        }
-    }
-
-    fn fail_link(&mut self)
-        ensures { self.new.conn ≡ self.old.conn }
-    {
-        match self.link.take_fault() {
-            Some(error) => self.end(ObservedEnd::Fault(error)),
-            None => self.end(ObservedEnd::ByPeer),
-        }
-    }
-
-    /// Sends the output, and returns how many octets were sent.
-    pub fn send(&mut self) -> u64
-        ensures { HandsInNothing self.old.conn self.new.conn }
-    {
-        let mut sent = 0u64;
-        for _ in 0..CALLS_MAX {
-            match send_once(&mut self.conn, &mut self.link) {
-                Moved::Done(count) => sent = sent.saturating_add(count as u64),
-                Moved::Later => return sent,
-                Moved::Closed | Moved::Fault => {
-                    self.fail_link();
-                    return sent;
-                }
-            }
-        }
-        self.is_dirty = true;
-        sent
-    }
-
     /// Counts the room of its output. If large rooms are too much then, and nothing is to be sent, gives its own back.
     pub fn count_room(&mut self, rooms: &mut LargeRooms)
         ensures { self.new.conn ≡ self.old.conn }
@@ -502,11 +453,13 @@ impl PeerConnection {
         ensures given { self.old.kept ≡ None → untold_at self.old.conn
             ≡ outcomes_in result ++ untold_at self.new.conn }
         ensures nothing { HandsInNothing self.old.conn self.new.conn }
+        ensures counted { self.new.counts ≡ counts_after self.old.kept result self.old.counts }
     {
         if let Some(kept) = self.kept.take() {
             return Some(kept);
         }
         let given = GivenOutcome::next(&mut self.conn)?;
+        self.counts.add(&count_of(given.get()));
         match given.get() {
             Outcome::Deferred(deferral) => self.deferred.add(deferral.debt()),
             Outcome::Lost(_, _) => self.is_dirty = true,
@@ -530,6 +483,7 @@ impl PeerConnection {
         match offer_to(&mut self.conn, debt) {
             Ok(()) => {
                 self.held = self.held.saturating_add(1);
+                self.counts.add(&offered_once());
                 self.idle_since = None;
             }
             Err(back) => self.kept = Some(GivenOutcome::back(back.debt)),
@@ -614,7 +568,18 @@ impl PeerConnection {
         }
     }
 
+    /// Whether its peer has an account.
+    pub(crate) fn has_account(&self) -> bool {
+        self.login.is_wanted()
+    }
+
     pub(crate) fn stage(&self) -> SessionStage {
+        match self.login.step() {
+            Some(LoginStep::Greeting) => return SessionStage::Greeting,
+            Some(LoginStep::User) => return SessionStage::User,
+            Some(LoginStep::Password) => return SessionStage::Password,
+            None => {}
+        }
         match self.agreed {
             Some(Mode::Streaming) => SessionStage::Streaming,
             Some(Mode::Ihave) => SessionStage::Ihave,
@@ -622,208 +587,4 @@ impl PeerConnection {
             None => SessionStage::Greeting,
         }
     }
-
-    /// Hands in the articles that are wanted, until there is enough output, half a window of articles at most: so the
-    /// peer works on one half while the other is read. It closes if one can't be read. Returns false if the spool is
-    /// missing, or counts as missing: then none is handed in. What is handed in for each debt is what the source gives
-    /// for its token and its message-id, or gave a while ago; `now` is the second that it is.
-    pub fn hand_in<R: Log, A: ArticleSource>(
-        &mut self,
-        rt: &R,
-        spool: &mut FeederSpool<A>,
-        rule: SpoolRule<'_>,
-        unread: &mut UnreadPaths,
-        now: u64,
-    ) -> bool
-        ensures { AllStayFound (IsFoundFor A.gives) self.old.conn self.new.conn }
-    {
-        for _ in 0..half_of(self.owner.room) {
-            if self.conn.output().len() >= OUTPUT_ENOUGH_OCTETS {
-                return true;
-            }
-            match self.hand(rt, spool, rule, unread, now) {
-                HandInResult::None => return true,
-                HandInResult::One => {}
-                HandInResult::OutOfReach => return false,
-            }
-        }
-        true
-    }
-
-    // Hands in the article that was wanted first. If memory is refused, the connection breaks and nothing is logged.
-    fn hand<R: Log, A: ArticleSource>(
-        &mut self,
-        rt: &R,
-        spool: &mut FeederSpool<A>,
-        rule: SpoolRule<'_>,
-        unread: &mut UnreadPaths,
-        now: u64,
-    ) -> HandInResult
-        ensures { AllStayFound (IsFoundFor A.gives) self.old.conn self.new.conn }
-    {
-        articles_are_of_their_debts();
-        let Some(debt) = self.conn.wanted() else {
-            return HandInResult::None;
-        };
-        let key = debt.key();
-        match spool.article_of(debt, now) {
-            Ok(found) => {
-                if let Some(ended) = spool_end(&found, &spool.store, rule, debt.token()) {
-                    let _ = unread.add(self.alloc, &spool.path, None);
-                    return self.break_for_spool(key, ended);
-                }
-                self.note_found(key, &found, &mut spool.store, rule);
-                give(&mut self.conn, key, found)
-            }
-            Err(StoreFault::Disk) => {
-                let reason = spool.store.take_reason();
-                let article = unread_article(debt.token(), reason.as_ref());
-                let is_new = unread.add(self.alloc, &spool.path, article);
-                log_unread(rt, &spool.path, debt.token(), reason.as_ref(), is_new);
-                self.unread = Some(key);
-                self.break_off(ObservedEnd::Unread(reason));
-                HandInResult::None
-            }
-            Err(StoreFault::NoMemory) => {
-                break_conn(&mut self.conn);
-                HandInResult::None
-            }
-        }
-    }
-
-    // Breaks it, because the spool is missing, or counts as missing since it has no article of this debt.
-    fn break_for_spool(&mut self, key: Key, ended: ObservedEnd) -> HandInResult
-        ensures { HandsInNothing self.old.conn self.new.conn }
-    {
-        let unread = match ended {
-            ObservedEnd::NoneFound => Some(key),
-            _ => self.unread,
-        };
-        self.unread = unread;
-        self.break_off(ended);
-        HandInResult::OutOfReach
-    }
-
-    // Breaks it, because of this.
-    fn break_off(&mut self, ended: ObservedEnd)
-        ensures { HandsInNothing self.old.conn self.new.conn }
-    {
-        self.end(ended);
-        break_conn(&mut self.conn);
-    }
-
-    // Notes what is to be known of the article of this debt: that one was found, or why it cannot be sent. If memory is
-    // refused for that, the reason is not known.
-    fn note_found<S: SpoolDirectory>(
-        &mut self,
-        key: Key,
-        found: &Found,
-        store: &mut S,
-        rule: SpoolRule<'_>,
-    )
-        ensures { self.new.conn ≡ self.old.conn }
-    {
-        match found {
-            Found::Article(_) => rule.tally.set_found(),
-            Found::Gone => {}
-            Found::Unsendable => {
-                if let Some(fault) = store.take_cause() {
-                    let _ = self.unsendable.push((key, fault));
-                }
-            }
-        }
-    }
-}
-
-// Why the spool is missing or counts as missing, if an article that is gone shows that.
-fn spool_end<S: SpoolDirectory>(
-    found: &Found,
-    store: &S,
-    rule: SpoolRule<'_>,
-    token: &Token,
-) -> Option<ObservedEnd> {
-    match found {
-        Found::Gone if !store.is_there() => Some(ObservedEnd::NoSpool),
-        Found::Gone if rule.is_out_of_reach(token) => Some(ObservedEnd::NoneFound),
-        _ => None,
-    }
-}
-
-// Hands in what was found, for the first want of that key. If memory is refused, the connection breaks.
-fn give(conn: &mut Conn, key: Key, found: Found) -> HandInResult
-    ensures { MayHandIn key found conn.old conn.new }
-{
-    if conn.article(key, found).is_ok() {
-        return HandInResult::One;
-    }
-    break_conn(conn);
-    HandInResult::None
-}
-
-fn break_conn(conn: &mut Conn)
-    ensures { HandsInNothing conn.old conn.new }
-{
-    conn.broken();
-}
-
-fn quit_conn(conn: &mut Conn)
-    ensures { HandsInNothing conn.old conn.new }
-{
-    conn.quit();
-}
-
-fn tick_conn(conn: &mut Conn, now: u64)
-    ensures { HandsInNothing conn.old conn.new }
-{
-    conn.tick(now);
-}
-
-fn offer_to(conn: &mut Conn, debt: Debt) -> Result<(), Back>
-    ensures { HandsInNothing conn.old conn.new }
-{
-    conn.offer(debt)
-}
-
-fn send_once(conn: &mut Conn, link: &mut SocketLink) -> Moved
-    ensures { HandsInNothing conn.old conn.new }
-{
-    put_out(conn, link)
-}
-
-fn receive_once(conn: &mut Conn, link: &mut SocketLink, buffer: &mut [u8]) -> Moved
-    ensures { HandsInNothing conn.old conn.new }
-{
-    take_in(conn, link, buffer)
-}
-
-// The one after the other.
-fn joined(alloc: Global, first: &[u8], second: &[u8]) -> Result<Vec<u8>, AllocError> {
-    let mut text = Vec::from_slice(alloc, first)?;
-    text.extend_from_slice(second)?;
-    Ok(text)
-}
-
-// Whether the first line of this text is whole and may be a reply.
-fn begins_with_reply(text: &[u8]) -> bool {
-    match text.split(|octet| *octet == b'\n').next() {
-        Some(line) => line.len() < text.len() && begins_with_code(line),
-        None => false,
-    }
-}
-
-// How many articles are half a window of this many debts.
-fn half_of(room: u64) -> u64
-    ensures half { 2 ≤ room → result ≡ room / 2 }
-    ensures one { room < 2 → result ≡ 1 }
-{
-    (room / 2).max(1)
-}
-
-// What became of the article that was to be handed in.
-enum HandInResult {
-    // No article is wanted, or the connection has closed.
-    None,
-    One,
-    // The spool is missing.
-    OutOfReach,
 }

@@ -1,9 +1,13 @@
 // Where a peer is and how it is fed.
-ghost use Rattle.std.specs.Prelude.{◌≡◌, ◌↔◌, ◌%◌, IsNone, length, min, slice_get};
+ghost use Rattle.std.specs.Prelude.{◌≡◌, ◌↔◌, ◌%◌, IfOk, IsNone, length, min, slice_get};
 ghost use Rattle.std.specs.Prelude.{if◌then◌else◌};
+ghost use Rattle.std.specs.Option.{option_map};
+ghost use Rattle.connections.specs.Logins.{begun};
 
 use conn_core::Options;
 use funnel::PeerName;
+use login::{Account, Login};
+use std::alloc::{AllocError, Global};
 use std::net::SocketAddr;
 
 /// Where a peer is and how it is fed.
@@ -14,6 +18,8 @@ pub struct PeerTarget {
     pub name: PeerName,
     /// The known addresses of its host, none at first. They are tried in turn, one a try.
     pub addresses: Vec<SocketAddr>,
+    /// The user and the password with which a connection begins, if the peer wants them.
+    pub account: Option<Account>,
     pub options: Options,
     /// How many connections it is to have (`max-connections`).
     pub connections: u64,
@@ -41,6 +47,23 @@ impl PeerTarget {
         ensures { result ≡ min self.now.connections 2 }
     {
         self.connections.min(2)
+    }
+
+    /// A login, with which a connection begins, if the peer has an account.
+    ///
+    /// # Errors
+    /// Memory was refused.
+    pub fn login(&self, alloc: Global) -> Result<Option<Login>, AllocError>
+        ensures { IfOk result (λ login. login ≡ option_map
+            (λ account. begun account self.now.options.response_timeout) self.now.account) }
+    {
+        match &self.account {
+            Some(account) => {
+                let login = Login::new(alloc, account, self.options.response_timeout)?;
+                Ok(Some(login))
+            }
+            None => Ok(None),
+        }
     }
 
     /// The address for a try, by the number of tries before it: they go through the addresses in turn. None if the peer

@@ -13,7 +13,7 @@ returns-in_default-spool_end g c =
     c.in-Ok.found _
     (λ options unread h s. c.articles_are_of_their_debts.ensures.served options c.args.self.now.conn unread h
     c.in-Some.debt.now s (sym (c.in-Some.ensures.value options unread h s)))
-    c.in-Ok.ensures c.key-key.ensures c.note_found.ensures c.give.ensures
+    c.in-Ok.ensures c.key-key.ensures c.note_found.ensures c.give.ensures.handed
 
 pub returns-in-Err-Disk : goal.returns-in-Err-Disk
 returns-in-Err-Disk g c = nothing_stays _ _ _ c.break_off.ensures

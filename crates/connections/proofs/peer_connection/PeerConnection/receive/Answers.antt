@@ -15,4 +15,4 @@ pub returns-in-Fault : goal.returns-in-Fault
 returns-in-Fault c = nothing_same _ _ _ (nothing_on _ _ _ c.loop.invariant c.receive_once.ensures) c.fail_link.ensures
 
 pub loop-preserved : goal.loop-preserved
-loop-preserved c = nothing_same _ _ _ (nothing_on _ _ _ c.loop.invariant c.receive_once.ensures) c.on_received.ensures
+loop-preserved c = nothing_on _ _ _ c.loop.invariant c.receive_once.ensures

@@ -2,7 +2,7 @@
 use Rattle.conn_core.specs.History.{Tick, outside}
 use Rattle.conn_core.specs.Stands.{left_behind}
 use Rattle.connections.proofs.Calls.{outside_nothing}
-use Rattle.connections.proofs.peer_connection.tick_conn.Goals as goal
+use Rattle.connections.proofs.conn_calls.tick_conn.Goals as goal
 
 pub returns : goal.returns
 returns c =
