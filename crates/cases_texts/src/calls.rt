@@ -9,7 +9,9 @@ use crate::lines::{
 use crate::replies::put_replies;
 use crate::reports::put_report;
 use crate::segment_names::{put_added, put_name, put_place, put_sides};
-use crate::settings::{put_fault, put_innd, put_names, put_numbers, put_settings};
+use crate::settings::{
+    put_fault, put_innd, put_login, put_names, put_numbers, put_settings, put_state,
+};
 use article_store::MemArticles;
 use funnel::LineCutter;
 use std::alloc::{AllocError, Global};
@@ -46,6 +48,8 @@ pub fn answer(
         ("numbers", [conf, peer]) => put_numbers(answer, conf, peer),
         ("settings", [conf]) => put_settings(answer, conf),
         ("innd", [conf]) => put_innd(answer, conf),
+        ("login", [conf]) => put_login(answer, conf),
+        ("state", [conf]) => put_state(answer, conf),
         ("into-peers", [conf]) => put_names(answer, conf),
         ("place", [_, ..]) => put_place(answer, arguments),
         ("sides", [_, ..]) => put_sides(answer, arguments),

@@ -81,6 +81,25 @@ pub fn put_innd(answer: &mut Vec<u8>, text: &[u8]) -> Result<(), RowFault> {
     Ok(())
 }
 
+/// The file of accounts that a configuration gives; nothing if it gives none.
+pub fn put_login(answer: &mut Vec<u8>, text: &[u8]) -> Result<(), RowFault> {
+    let conf = conf_in(*answer.allocator(), text)?;
+    if let Some(path) = conf.authinfo_file() {
+        put(answer, path)?;
+    }
+    Ok(())
+}
+
+/// The files of the peers' state that a configuration gives, each after what it is, and every how many seconds they are
+/// written.
+pub fn put_state(answer: &mut Vec<u8>, text: &[u8]) -> Result<(), RowFault> {
+    let conf = conf_in(*answer.allocator(), text)?;
+    put_path(answer, b"json", conf.status_json())?;
+    put_path(answer, b"metrics", conf.metrics_file())?;
+    put_printed(answer, &conf.status_period())?;
+    Ok(())
+}
+
 fn put_path(answer: &mut Vec<u8>, what: &[u8], path: Option<&[u8]>) -> Result<(), AllocError> {
     if let Some(path) = path {
         put(answer, what)?;

@@ -7,7 +7,15 @@
 #![tactic(auto)]
 
 mod columns;
+mod family;
+mod json;
 mod lines;
+mod live;
+mod metrics;
+mod pieces;
 mod put;
 
+pub use json::write_json;
 pub use lines::{PeerStatus, ReportFault, report};
+pub use live::{LiveReport, LiveStatus};
+pub use metrics::write_metrics;
