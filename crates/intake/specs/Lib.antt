@@ -1,3 +1,4 @@
+pub mod Accounts
 pub mod Errors
 pub mod Nowhere
 pub mod OpenFiles

@@ -17,7 +17,8 @@ use std::rt::Files;
 #[derive(Clone, Copy)]
 pub struct OtherFiles<'a> {
     pub conf: &'a str,
-    pub status: &'a str,
+    /// The files that a run writes into, and the one of accounts, as the settings name them.
+    pub of_run: &'a [&'a str],
     /// Has the funnel's path, if there is a funnel.
     pub source: Source<'a>,
 }
@@ -98,7 +99,9 @@ fn backlog_files<'a, F: AllocGlobal + Files<File = File>>(
 ) -> Result<BacklogFiles<'a, F>, AllocError> {
     let mut backlogs = BacklogFiles::new(files, tapes, directory);
     backlogs.spare(others.conf)?;
-    backlogs.spare(others.status)?;
+    for path in others.of_run {
+        backlogs.spare(path)?;
+    }
     if let Source::Funnel { path, .. } = others.source {
         backlogs.spare(path)?;
     }

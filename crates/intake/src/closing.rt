@@ -1,11 +1,12 @@
 // The end of a run: what still pends is flushed, the status file is written, what is owed is added up, and the post is
 // closed.
+use crate::live_files::LiveFiles;
 use crate::run_error::RunError;
 use crate::status_file::StatusFile;
 use crate::stop_file::StopFile;
 use disk_model::Disk;
 use feed_ends::{FeedEnd, Owing, TapeError};
-use flusher::{ArticleSync, FeederShare, Free, IntakeShare, Naming, Post, PostFault};
+use flusher::{ArticleSync, FeederShare, Free, IntakeShare, Naming, Post, PostFault, Receipt};
 use funnel::PeerName;
 use log::{Log, warn};
 use std::alloc::AllocError;
@@ -25,11 +26,11 @@ pub struct WorkerShares<N: Naming> {
     pub flusher: FeederShare<N>,
 }
 
-/// Flushes what is still pending, writes the status file, adds what is still owed, and closes the post with the shares
-/// of all workers. `is_reported` is whether it was reported before that the status file cannot be written. After a
-/// fault of a tape only the other tapes are flushed, nothing is acknowledged, and the post is not closed; what the
-/// tape's peer is owed is not known, and not reported. Further tapes that failed are logged. Without `articles` nothing
-/// is acknowledged, either, and without `shares` the post is not closed.
+/// Flushes what is still pending, writes the status file and the live files, adds what is still owed, and closes the
+/// post with the shares of all workers. `is_reported` is whether it was reported before that the status file cannot be
+/// written. After a fault of a tape only the other tapes are flushed, nothing is acknowledged, and the post is not
+/// closed; what the tape's peer is owed is not known, and not reported. Further tapes that failed are logged. Without
+/// `articles` nothing is acknowledged, either, and without `shares` the post is not closed.
 pub fn close<
     D: Disk + Drop,
     N: Naming,
@@ -42,23 +43,39 @@ pub fn close<
     shares: Option<WorkerShares<N>>,
     names: &[PeerName],
     (status, is_reported): (StatusFile<'_, F>, bool),
+    live: Option<LiveFiles<'_, F>>,
     articles: Option<&mut A>,
     end: &mut FeedEnd,
 ) {
-    let mut status = status;
-    if let Err(fault) = flush(rt, &post, articles, end.tapes.is_empty()) {
-        RunError::post(*end.tapes.allocator(), names, fault).add_to(end);
+    let (mut status, mut live) = (status, live);
+    match flush(rt, &post, articles, end.tapes.is_empty()) {
+        Ok(Some(receipt)) => set_acknowledged(&mut live, &receipt),
+        Ok(None) => {}
+        Err(fault) => RunError::post(*end.tapes.allocator(), names, fault).add_to(end),
     }
     if let Err(error) = status.write(rt, &post, names)
         && !is_reported
     {
         error.add_to(end);
     }
+    if let Some(live) = &mut live {
+        live.write(rt, &post, names, end);
+    }
     add_owed(rt, &post, names, end);
     if let Some(shares) = shares
         && end.tapes.is_empty()
     {
         end_post(rt, post, shares, names, end);
+    }
+}
+
+// The live files are to have what this receipt acknowledges.
+fn set_acknowledged<F: AllocGlobal + Files<File = File>>(
+    live: &mut Option<LiveFiles<'_, F>>,
+    receipt: &Receipt,
+) {
+    if let Some(live) = live {
+        live.set_acknowledged(receipt.number());
     }
 }
 
@@ -107,13 +124,13 @@ fn flush<D: Disk, N: Naming, A: ArticleSync, R: Wait>(
     post: &Post<D, N>,
     articles: Option<&mut A>,
     are_well: bool,
-) -> Result<(), PostFault> {
+) -> Result<Option<Receipt>, PostFault> {
     match articles {
-        Some(articles) if are_well => {
-            post.flush_all(rt, &Free, articles)?;
-            Ok(())
+        Some(articles) if are_well => post.flush_all(rt, &Free, articles),
+        _ => {
+            post.flush_working(rt, &Free)?;
+            Ok(None)
         }
-        _ => post.flush_working(rt, &Free),
     }
 }
 

@@ -5,6 +5,7 @@ ghost use Rattle.intake.specs.Ordered.{lasts_of};
 use crate::batch_wait::BatchWait;
 use crate::countdown::Countdown;
 use crate::keeping::LineKeeper;
+use crate::live_files::LiveFiles;
 use crate::look_pace::LookPace;
 use crate::named_buffers::NamedBuffers;
 use crate::nowhere::Nowhere;
@@ -73,6 +74,8 @@ pub struct IntakeWorker<'a, F, W, N: Naming> {
     pub wakers: (Arc<Waker>, Arc<Waker>),
     pub names: &'a [PeerName],
     pub status: StatusFile<'a, F>,
+    /// The files that show each peer while the run goes on, if there are any.
+    pub live: Option<LiveFiles<'a, F>>,
     pub progress: Progress,
     pub nowhere: Nowhere,
     /// What keeps what no tape takes of a line, before the line is taken.
@@ -543,8 +546,8 @@ impl<F: AllocGlobal + Files<File = File>, W: Write, N: Naming> IntakeWorker<'_, 
         let _ = self.wakers.1.wake();
     }
 
-    // Does what is due: writes the status file, logs the progress and the lines that go nowhere. `path` is the
-    // funnel's.
+    // Does what is due: writes the status file and the live files, logs the progress and the lines that go nowhere.
+    // `path` is the funnel's.
     fn look_after<D: Disk, R: Wait + Clock + Log>(
         &mut self,
         rt: &R,
@@ -555,6 +558,7 @@ impl<F: AllocGlobal + Files<File = File>, W: Write, N: Naming> IntakeWorker<'_, 
         if self.status.wait(rt) == 0 {
             self.write_status(rt, post);
         }
+        self.write_live(rt, post, false);
         if let Ok(passed) = self.nowhere_logged.elapsed(rt)
             && passed.as_secs() >= NOWHERE_PERIOD_SECONDS
         {
@@ -569,6 +573,21 @@ impl<F: AllocGlobal + Files<File = File>, W: Write, N: Naming> IntakeWorker<'_, 
     fn write_status<D: Disk, R: Wait + Clock + Log>(&mut self, rt: &R, post: &Post<D, N>) {
         if let Err(error) = self.status.write(rt, post, self.names) {
             self.keep_status_error(error);
+        }
+    }
+
+    // Writes the live files, if there are any and they are due, or `is_due` says so.
+    fn write_live<D: Disk, R: Wait + Clock + Log>(
+        &mut self,
+        rt: &R,
+        post: &Post<D, N>,
+        is_due: bool,
+    ) {
+        if let Some(live) = &mut self.live
+            && (is_due || live.wait(rt) == 0)
+        {
+            live.set_acknowledged(self.acknowledged.number());
+            live.write(rt, post, self.names, &mut self.end);
         }
     }
 
@@ -628,6 +647,7 @@ impl<D: Disk, F: AllocGlobal + Files<File = File>, W: Write, N: Naming> Work<D, 
         if self.stop.is_some() {
             self.write_status(rt, post);
         }
+        self.write_live(rt, post, true);
         let mut funnel = self.funnel.take();
         self.take_all(rt, post, signals, &mut funnel);
         let path: &[u8] = match &funnel {

@@ -7,6 +7,7 @@
 //! many connections fit, and what a [`RunError`] adds to how a run ended.
 #![tactic(auto)]
 
+mod accounts;
 mod backlogs;
 mod batch_wait;
 mod closing;
@@ -14,12 +15,14 @@ mod countdown;
 mod disks;
 mod intake_worker;
 mod keeping;
+mod live_files;
 mod look_pace;
 mod named_buffers;
 mod nowhere;
 mod open_files;
 mod ordered;
 mod owner;
+mod placed_file;
 mod progress;
 mod run_error;
 mod source;
@@ -31,11 +34,13 @@ mod tapes;
 mod unknown_lines;
 mod unprinted;
 
+pub use accounts::{Accounts, account_of, read_accounts};
 pub use backlogs::{OtherFiles, flush_stations, take_backlogs};
 pub use closing::{WorkerShares, close, remove_stop};
 pub use countdown::{Countdown, CountedWorker};
 pub use intake_worker::IntakeWorker;
 pub use keeping::{LineKeeper, keeper_for};
+pub use live_files::LiveFiles;
 pub use named_buffers::NamedBuffers;
 pub use nowhere::Nowhere;
 pub use open_files::most_connections;

@@ -1,6 +1,7 @@
 // The status file.
 ghost use Rattle.std.specs.Prelude.{◌≡◌, false};
 
+use crate::placed_file::place;
 use crate::run_error::{RunError, log_reason};
 use disk_model::Disk;
 use flusher::{Naming, Post};
@@ -8,10 +9,9 @@ use funnel::PeerName;
 use log::Log;
 use status::{PeerStatus, report};
 use std::alloc::{AllocError, Global};
-use std::fs::{self, File, OpenOptions};
-use std::io::{self, ErrorKind, Write};
+use std::fs::File;
+use std::io;
 use std::rt::{Clock, Files};
-use std::str;
 use std::sync::Wait;
 use std::time::Instant;
 
@@ -65,7 +65,7 @@ impl<'a, F: AllocGlobal + Files<File = File>> StatusFile<'a, F> {
             self.written = now;
         }
         let text = text_of(alloc, rt, post, names)?;
-        match self.put(&text) {
+        match place(self.files, &self.path, &text) {
             Ok(()) => Ok(()),
             Err(error) => {
                 self.tell(rt, &error);
@@ -80,35 +80,6 @@ impl<'a, F: AllocGlobal + Files<File = File>> StatusFile<'a, F> {
             self.is_told = true;
             log_reason(rt, &self.path, error);
         }
-    }
-
-    fn put(&self, text: &[u8]) -> io::Result<()> {
-        let Ok(path) = str::from_utf8(&self.path) else {
-            return Err(io::Error::from(ErrorKind::InvalidInput));
-        };
-        match fs::metadata(self.files, path) {
-            Ok(there) if !there.is_file() => self.write_into(path, text),
-            _ => self.replace(path, text),
-        }
-    }
-
-    fn write_into(&self, path: &str, text: &[u8]) -> io::Result<()> {
-        let mut there = OpenOptions::new().write(true).open(self.files, path)?;
-        there.write_all(text)
-    }
-
-    // Writes a file beside the one at this path, and renames it to that.
-    fn replace(&self, path: &str, text: &[u8]) -> io::Result<()> {
-        let beside = format!(in self.files.alloc(); "{}.new", path)?;
-        self.write_anew(beside.as_str(), text)?;
-        fs::rename(self.files, beside.as_str(), path)
-    }
-
-    // Writes a file at this path, in place of one that is there, and syncs it.
-    fn write_anew(&self, path: &str, text: &[u8]) -> io::Result<()> {
-        let mut file = File::create(self.files, path)?;
-        file.write_all(text)?;
-        file.sync_all()
     }
 }
 
