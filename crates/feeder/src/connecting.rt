@@ -209,6 +209,7 @@ impl<S: ArticleSource + Drop, C: Net + Drop, N: Naming> Feeder<S, C, N> {
             return Err(io::Error::from(ErrorKind::QuotaExceeded));
         };
         let conn = Conn::new(self.alloc, CxnId(self.number), peer.target.options)?;
+        let login = peer.target.login(self.alloc)?;
         self.connections.reserve(1)?;
         link.register(self.poll.registry(), Token(self.connections.vacant_key()))?;
         let owner = ConnectionOwner {
@@ -216,7 +217,7 @@ impl<S: ArticleSource + Drop, C: Net + Drop, N: Naming> Feeder<S, C, N> {
             slot: slot_at,
             room: peer.target.room(),
         };
-        let made = PeerConnection::new(self.alloc, conn, link, address, owner, now);
+        let made = PeerConnection::new(self.alloc, conn, link, login, address, owner, now);
         let _ = self.connections.insert_reserved(made);
         self.number = next;
         Ok(())

@@ -3,12 +3,14 @@ ghost use Rattle.std.specs.Prelude.{◌≡◌, ◌+◌, ◌-◌, ◌/◌, ◌%�
 
 use crate::FeederFault;
 use crate::peer_state::PeerState;
+use crate::service_list::ServiceList;
 use connections::{
-    ArticleSource, FeederSpool, LargeRooms, Outages, PeerConnection, PeerTarget, Slot, Spool,
+    ArticleSource, FeederParts, FeederSpool, LargeRooms, Outages, PeerConnection, PeerTarget, Slot,
     SpoolTally, Suspects, UnreadPaths,
 };
 use flusher::{FeederShare, Naming};
 use mio::{Events, Poll, Token, Waker};
+use peer_counts::CountTable;
 use resolver::Resolver;
 use slab::Slab;
 use std::alloc::{AllocError, Global};
@@ -35,13 +37,11 @@ pub struct Feeder<S: ArticleSource + Drop, C: Net + Drop, N: Naming> {
     pub fault: Option<FeederFault>,
     /// The files that it could not read.
     pub unread: UnreadPaths,
-    /// Whether the run goes on until it is asked to end. Then connections that have held nothing for a minute are left,
-    /// it is no failure if a peer closes one that has held nothing for some seconds, and no peer is given up if the
-    /// spool is missing.
-    pub is_lasting: bool,
-    /// Whether each article that is missing is dropped. If not, one whose token is one of INN's storage API is put off
-    /// until an article of the run was found.
-    pub drops_missing: bool,
+    // As the parts have these two.
+    pub(crate) is_lasting: bool,
+    pub(crate) drops_missing: bool,
+    // Where it publishes what it has counted, if anybody reads that.
+    pub(crate) counts: Option<Arc<CountTable>>,
     pub(crate) alloc: Global,
     pub(crate) net: C,
     pub(crate) hosts: Resolver,
@@ -64,6 +64,10 @@ pub struct Feeder<S: ArticleSource + Drop, C: Net + Drop, N: Naming> {
     // For each peer, how many slots there are up to its last.
     ends: Vec<usize>,
     pub(crate) connections: Slab<PeerConnection>,
+    // Those that are to be serviced.
+    pub(crate) listed: ServiceList,
+    // A front of its peers was found to be half full of pending notes, and no flush was ordered for that.
+    pub(crate) is_half_full: bool,
     // The large rooms of their outputs.
     pub(crate) rooms: LargeRooms,
     pub(crate) poll: Poll,
@@ -84,10 +88,8 @@ pub struct Feeder<S: ArticleSource + Drop, C: Net + Drop, N: Naming> {
 }
 
 impl<S: ArticleSource + Drop, C: Net + Drop, N: Naming> Feeder<S, C, N> {
-    /// The first feeder (`which` is 0) or the second (1): it has connection k of each peer if k mod 2 is `which`.
-    /// Articles come from `spool`, about which the two feeders share `tally`, as they share `suspects` and `outages`.
-    /// If it has connections to several peers, what it reads there is kept for the others for a while. `start` is the
-    /// time 0 of all threads, `net` the capability to open sockets, and `hosts` looks up the peers' hosts.
+    /// The feeder of these parts. If it has connections to several peers, what it reads in the spool is kept for the
+    /// others for a while. `net` is the capability to open sockets, and `hosts` looks up the peers' hosts.
     ///
     /// # Errors
     /// The system's, if no poll can be made; memory was refused.
@@ -95,30 +97,32 @@ impl<S: ArticleSource + Drop, C: Net + Drop, N: Naming> Feeder<S, C, N> {
         alloc: Global,
         net: C,
         hosts: Resolver,
-        spool: Spool<S>,
-        tally: Arc<SpoolTally>,
-        suspects: Arc<Suspects>,
-        outages: Arc<Outages>,
-        which: u8,
-        targets: Vec<PeerTarget>,
-        start: Instant,
+        parts: FeederParts<S>,
         share: FeederShare<N>,
     ) -> io::Result<Self> {
-        let poll = Poll::new(&net)?;
-        let events = Events::with_capacity(alloc, EVENTS_MAX)?;
-        let buffer = vec![in alloc; 0u8; BUFFER_OCTETS]?;
-        let (slots, ends) = slots_of(alloc, &targets, which)?;
-        let spool = FeederSpool::new(alloc, spool, served_by(&targets, which))?;
-        let mut peers = Vec::new(alloc);
-        for target in targets {
-            peers.push(PeerState::new(alloc, target))?;
-        }
+        let polled = Polled::new(alloc, &net)?;
+        let planned = Planned::new(alloc, &parts.targets, parts.which)?;
+        let FeederParts {
+            which,
+            targets,
+            spool,
+            tally,
+            suspects,
+            outages,
+            start,
+            counts,
+            is_lasting,
+            drops_missing,
+        } = parts;
+        let spool = FeederSpool::new(alloc, spool, planned.served)?;
+        let peers = states_of(alloc, targets)?;
         Ok(Feeder {
             share,
             fault: None,
             unread: UnreadPaths::new(alloc),
-            is_lasting: false,
-            drops_missing: false,
+            is_lasting,
+            drops_missing,
+            counts,
             alloc,
             net,
             hosts,
@@ -131,13 +135,15 @@ impl<S: ArticleSource + Drop, C: Net + Drop, N: Naming> Feeder<S, C, N> {
             start,
             which,
             peers,
-            slots,
-            ends,
+            slots: planned.slots,
+            ends: planned.ends,
             connections: Slab::new(alloc),
+            listed: ServiceList::new(alloc),
+            is_half_full: false,
             rooms: LargeRooms::new(),
-            poll,
-            events,
-            buffer,
+            poll: polled.poll,
+            events: polled.events,
+            buffer: polled.buffer,
             number: u64::from(which),
             ticked: None,
             checks_slots: true,
@@ -176,22 +182,62 @@ impl<S: ArticleSource + Drop, C: Net + Drop, N: Naming> Feeder<S, C, N> {
     }
 }
 
-// This feeder's slots of all peers, and for each peer how many there are up to its last.
-fn slots_of(
-    alloc: Global,
-    targets: &Vec<PeerTarget>,
-    which: u8,
-) -> Result<(Vec<Slot>, Vec<usize>), AllocError> {
-    let mut slots = Vec::new(alloc);
-    let mut ends = Vec::new(alloc);
-    for at in 0..targets.len() {
-        let target = &targets[at];
-        for _ in 0..share_of(target.connections, which) {
-            slots.push(Slot::new(at, target.first_wait, target.most_wait))?;
-        }
-        ends.push(slots.len())?;
+// What a feeder polls its sockets with, and the buffer for what comes.
+#[derive(Drop)]
+struct Polled {
+    poll: Poll,
+    events: Events,
+    buffer: Vec<u8>,
+}
+
+impl Polled {
+    fn new<C: Net>(alloc: Global, net: &C) -> io::Result<Self> {
+        let poll = Poll::new(net)?;
+        let events = Events::with_capacity(alloc, EVENTS_MAX)?;
+        let buffer = vec![in alloc; 0u8; BUFFER_OCTETS]?;
+        Ok(Polled {
+            poll,
+            events,
+            buffer,
+        })
     }
-    Ok((slots, ends))
+}
+
+// A feeder's slots of all peers.
+#[derive(Drop)]
+struct Planned {
+    slots: Vec<Slot>,
+    // For each peer, how many slots there are up to its last.
+    ends: Vec<usize>,
+    // To how many of the peers it has connections.
+    served: usize,
+}
+
+impl Planned {
+    fn new(alloc: Global, targets: &Vec<PeerTarget>, which: u8) -> Result<Self, AllocError> {
+        let mut slots = Vec::new(alloc);
+        let mut ends = Vec::new(alloc);
+        for at in 0..targets.len() {
+            let target = &targets[at];
+            for _ in 0..share_of(target.connections, which) {
+                slots.push(Slot::new(at, target.first_wait, target.most_wait))?;
+            }
+            ends.push(slots.len())?;
+        }
+        Ok(Planned {
+            slots,
+            ends,
+            served: served_by(targets, which),
+        })
+    }
+}
+
+fn states_of(alloc: Global, targets: Vec<PeerTarget>) -> Result<Vec<PeerState>, AllocError> {
+    let mut peers = Vec::new(alloc);
+    for target in targets {
+        peers.push(PeerState::new(alloc, target))?;
+    }
+    Ok(peers)
 }
 
 // To how many of these peers the feeder has connections.

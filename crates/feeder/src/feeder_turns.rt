@@ -84,7 +84,8 @@ impl<S: ArticleSource + Drop, C: Net + Drop, N: Naming> Feeder<S, C, N> {
             if last_phase && self.ends_last_phase(rt, &view)? {
                 return Ok(());
             }
-            if self.awaits_flush() || self.take_half_full(&view) {
+            if self.awaits_flush() || self.is_half_full {
+                self.is_half_full = false;
                 signals.order();
             }
             let _ = self.wait(rt, self.wake_reason(last_phase).sleep(now.millis))?;
@@ -151,8 +152,8 @@ impl<S: ArticleSource + Drop, C: Net + Drop, N: Naming> Feeder<S, C, N> {
         Ok(())
     }
 
-    // If a second has passed, ticks each connection, has the slots checked, and logs which peers are down and what was
-    // dropped if that is due.
+    // If a second has passed, ticks each connection, has the slots checked, publishes what was counted, and logs which
+    // peers are down and what was dropped if that is due.
     fn pass_second<D: Disk, R: Wait + Log, P: Pace>(
         &mut self,
         rt: &R,
@@ -166,7 +167,10 @@ impl<S: ArticleSource + Drop, C: Net + Drop, N: Naming> Feeder<S, C, N> {
         for key in 0..self.connections.capacity() {
             self.tick_one(rt, view, key);
         }
+        self.listed.add_all();
+        self.look_half_full(view);
         self.tell_outages(rt, view.now);
+        self.publish_counts(rt, view.now);
         if self.is_lasting && self.which == 0 && is_log_due(self.drops_logged, view.now) {
             self.drops_logged = view.now;
             self.log_drops(rt);
@@ -211,13 +215,32 @@ impl<S: ArticleSource + Drop, C: Net + Drop, N: Naming> Feeder<S, C, N> {
         rt: &R,
         view: &PostView<'_, D, N, P>,
     ) -> Result<(), FeederFault> {
+        if !self.listed.begin_turn() {
+            return self.service_turn(rt, view);
+        }
         for key in 0..self.connections.capacity() {
             self.service_one(rt, view, key)?;
         }
         Ok(())
     }
 
-    // Services a connection, if it needs it, and drops it if it is over.
+    // Services the connections of the turn that need it.
+    fn service_turn<D: Disk, R: Wait + Log, P: Pace>(
+        &mut self,
+        rt: &R,
+        view: &PostView<'_, D, N, P>,
+    ) -> Result<(), FeederFault> {
+        for at in 0..usize::MAX {
+            let Some(key) = self.listed.in_turn(at) else {
+                return Ok(());
+            };
+            self.service_one(rt, view, key)?;
+        }
+        Ok(())
+    }
+
+    // Services a connection, if it needs it, and drops it if it is over. One that still needs service is of the next
+    // turn, too.
     fn service_one<D: Disk, R: Wait + Log, P: Pace>(
         &mut self,
         rt: &R,
@@ -230,7 +253,7 @@ impl<S: ArticleSource + Drop, C: Net + Drop, N: Naming> Feeder<S, C, N> {
         if !connection.needs_service() {
             return Ok(());
         }
-        let slot = connection.slot();
+        let (slot, peer) = (connection.slot(), connection.peer());
         match service(connection, rt, view, &mut env) {
             Ok(()) => {}
             Err(fault) if is_of_tape(fault) => {
@@ -244,6 +267,14 @@ impl<S: ArticleSource + Drop, C: Net + Drop, N: Naming> Feeder<S, C, N> {
         if self.connections.get(key).is_some_and(|one| one.is_over()) {
             self.remove(rt, view, key);
         }
+        if self
+            .connections
+            .get(key)
+            .is_some_and(|one| one.needs_service())
+        {
+            self.listed.add(key);
+        }
+        self.is_half_full |= view.take_half_full(peer);
         Ok(())
     }
 
@@ -319,6 +350,7 @@ impl<S: ArticleSource + Drop, C: Net + Drop, N: Naming> Feeder<S, C, N> {
         log_stopped(rt, name_of(&self.peers, at), "its tape failed");
         if let Some(peer) = self.peers.get_mut(at) {
             peer.is_closed = true;
+            peer.figures.has_failed = true;
         }
         for key in 0..self.connections.capacity() {
             let is_of_peer = match self.connections.get(key) {
@@ -401,6 +433,8 @@ impl<S: ArticleSource + Drop, C: Net + Drop, N: Naming> Feeder<S, C, N> {
             log_over(rt, name, &connection);
         }
         self.note_over(rt, view.now, &connection);
+        self.add_counts(&mut connection);
+        self.publish_end(rt, &connection);
     }
 
     // Whether no debt of its peers is ready or held, or could still be sent by this feeder. A connection that is to be
@@ -532,19 +566,17 @@ impl<S: ArticleSource + Drop, C: Net + Drop, N: Naming> Feeder<S, C, N> {
         }
     }
 
-    // Whether a front of its peers has become half full of pending notes since the last call.
-    fn take_half_full<D: Disk, P: Pace>(&self, view: &PostView<'_, D, N, P>) -> bool {
-        let mut found = false;
-        for peer in &self.peers {
-            found |= view.take_half_full(peer.target.peer);
+    // Looks whether a front of its peers has become half full of pending notes.
+    fn look_half_full<D: Disk, P: Pace>(&mut self, view: &PostView<'_, D, N, P>) {
+        for at in 0..self.peers.len() {
+            self.is_half_full |= view.take_half_full(self.peers[at].target.peer);
         }
-        found
     }
 
     fn wake_reason(&self, last_phase: bool) -> WakeReason {
-        if self.connections.iter().any(|(_, one)| one.is_dirty()) {
+        if self.any_needs(Need::Turn) {
             WakeReason::Now
-        } else if self.checks_slots || self.connections.iter().any(|(_, one)| one.is_blocked()) {
+        } else if self.checks_slots || self.any_needs(Need::Front) {
             WakeReason::Busy
         } else if self.awaits_flush() {
             WakeReason::Flush
@@ -557,7 +589,25 @@ impl<S: ArticleSource + Drop, C: Net + Drop, N: Naming> Feeder<S, C, N> {
 
     /// Whether an outcome of a connection waits for a flush.
     pub(crate) fn awaits_flush(&self) -> bool {
-        self.connections.iter().any(|(_, one)| one.awaits_flush())
+        self.any_needs(Need::Flush)
+    }
+
+    // Whether a connection that is to be serviced needs this.
+    fn any_needs(&self, need: Need) -> bool {
+        if self.listed.has_all() {
+            return self.connections.iter().any(|(_, one)| has_need(one, need));
+        }
+        for at in 0..usize::MAX {
+            let Some(key) = self.listed.in_next(at) else {
+                return false;
+            };
+            if let Some(one) = self.connections.get(key)
+                && has_need(one, need)
+            {
+                return true;
+            }
+        }
+        false
     }
 
     /// Polls for `at_most` milliseconds at most, and returns how many events came. Each marks its connection; after a
@@ -578,6 +628,7 @@ impl<S: ArticleSource + Drop, C: Net + Drop, N: Naming> Feeder<S, C, N> {
                 is_woken = true;
             } else if let Some(connection) = self.connections.get_mut(event.token().0) {
                 connection.on_event(event);
+                self.listed.add(event.token().0);
             }
         }
         if is_woken {
@@ -588,11 +639,31 @@ impl<S: ArticleSource + Drop, C: Net + Drop, N: Naming> Feeder<S, C, N> {
     }
 
     fn mark_all_dirty(&mut self) {
+        self.listed.add_all();
         for key in 0..self.connections.capacity() {
             if let Some(connection) = self.connections.get_mut(key) {
                 connection.mark_dirty();
             }
         }
+    }
+}
+
+// What a connection may need before it can go on.
+#[derive(Clone, Copy)]
+enum Need {
+    // The next turn, at once.
+    Turn,
+    // The front or the tape of its peer, which was in use.
+    Front,
+    // A flush, which makes room for an outcome.
+    Flush,
+}
+
+fn has_need(connection: &PeerConnection, need: Need) -> bool {
+    match need {
+        Need::Turn => connection.is_dirty(),
+        Need::Front => connection.is_blocked(),
+        Need::Flush => connection.awaits_flush(),
     }
 }
 

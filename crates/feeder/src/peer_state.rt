@@ -2,6 +2,7 @@
 use crate::told_outages::UntoldOutage;
 use connections::logging::text_of;
 use connections::{PeerTarget, Setbacks};
+use peer_counts::FeederFigures;
 use std::alloc::Global;
 
 // How often in a run a peer's slots are tried again at once, after a connection that failed once its peer had agreed to
@@ -25,6 +26,9 @@ pub(crate) struct PeerState {
     pub untold: Option<UntoldOutage>,
     /// It gets no more debts in this run: its tape failed, or the spool is missing.
     pub is_closed: bool,
+    /// What this feeder has of it, as it was published last; what was counted since on connections that are over is
+    /// added.
+    pub figures: FeederFigures,
     /// All else of it is done, and its suspects of earlier runs are offered, each once.
     pub is_last_stage: bool,
     // How often its connections may still be tried again at once.
@@ -44,6 +48,7 @@ impl PeerState {
             look_up_fault: None,
             untold: None,
             is_closed: false,
+            figures: FeederFigures::new(),
             is_last_stage: false,
             retries,
         }

@@ -23,7 +23,7 @@ impl<'a, D: Disk, N: Naming> LentPost<'a, D, N> {
 }
 
 /// A post as one feeder uses it in one turn. A peer is named by its index at the post; a wrong index is refused.
-#[derive(Drop)]
+#[derive(Clone, Copy)]
 pub(crate) struct PostView<'a, D: Disk, N: Naming, P: Pace> {
     pub post: LentPost<'a, D, N>,
     pub pace: &'a P,

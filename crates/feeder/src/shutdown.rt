@@ -30,6 +30,7 @@ impl<S: ArticleSource + Drop, C: Net + Drop, N: Naming> Feeder<S, C, N> {
         self.leave_all();
         let _ = self.await_goodbyes(rt, &view, signals);
         self.break_all(rt, &view);
+        self.publish_counts(rt, view.now);
         if self.tally.end() && self.tally.missing(rt) > 0 {
             let _ = self.unread.add(self.alloc, self.spool.path(), None);
         }
@@ -37,6 +38,7 @@ impl<S: ArticleSource + Drop, C: Net + Drop, N: Naming> Feeder<S, C, N> {
 
     // Asks each peer to end its connections.
     fn leave_all(&mut self) {
+        self.listed.add_all();
         for key in 0..self.connections.capacity() {
             if let Some(connection) = self.connections.get_mut(key) {
                 connection.leave();

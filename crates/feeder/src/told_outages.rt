@@ -51,19 +51,23 @@ impl<S: ArticleSource + Drop, C: Net + Drop, N: Naming> Feeder<S, C, N> {
         now: u64,
         error: &io::Error,
     ) {
-        if !self.is_lasting {
-            return;
-        }
         let Some(peer) = self.peers.get(at) else {
             return;
         };
+        if !self.is_lasting && self.counts.is_none() {
+            return;
+        }
         let reason = match &peer.look_up_fault {
             Some(fault) if peer.is_unknown => {
                 format!(in self.alloc; "cannot look up its host: {}", fault.as_str())
             }
             _ => format!(in self.alloc; "cannot connect: {}", error),
         };
-        self.note_failed(rt, slot, now, reason.ok());
+        let reason = reason.ok();
+        self.publish_reason(rt, slot, &reason);
+        if self.is_lasting {
+            self.note_failed(rt, slot, now, reason);
+        }
     }
 
     // A try at this slot has failed, for this reason. If the slot waits now, because there is no other address to try,
