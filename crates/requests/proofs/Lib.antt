@@ -1,0 +1,5 @@
+mod Cuts
+mod Decimals
+mod Fitting
+mod Spelling
+mod Written
