@@ -1,40 +1,13 @@
-// The end of a run: what the workers leave, what went wrong at work, and what is reported.
-use crate::run::RunEnv;
-use crate::spool_sync::SpoolSync;
-use crate::start_and_end::log_end;
-use acknowledged_lines::Acknowledged;
+// What the threads of a run leave, and what went wrong at work.
 use connections::{ArticleSource, UnreadPaths};
-use disk_model::Disk;
-use feed_ends::{FeedEnd, FileError};
+use feed_ends::FeedEnd;
 use feeder::{Feeder, FeederFault};
-use flusher::{FeederShare, Flusher, IntakeShare, Naming, NoThread, Post, PostFault};
+use flusher::{FeederShare, Flusher, IntakeShare, Naming, NoThread, PostFault};
 use funnel::PeerName;
-use intake::{
-    CountedWorker, IntakeWorker, RunError, StatusFile, StopFile, WorkerShares, add_all, close,
-    remove_stop,
-};
-use log::Log;
+use intake::{CountedWorker, RunError, WorkerShares, add_all};
+use run_parts::{LeftWorkers, SpoolSync, add_unread};
 use std::alloc::Global;
-use std::fs::File;
 use std::net::Net;
-use std::rt::{Clock, Files};
-use std::sync::Wait;
-
-/// What is left of the intake at its end, besides its share and what went wrong.
-#[derive(Drop)]
-pub(crate) struct LeftIntake<'a, F> {
-    /// The status file, and whether it was reported that it cannot be written.
-    pub status: (StatusFile<'a, F>, bool),
-    pub stop: Option<StopFile<'a, F>>,
-    pub acknowledged: Acknowledged,
-}
-
-/// What is left of the other workers: all shares, and what makes the articles durable.
-#[derive(Drop)]
-pub(crate) struct LeftWorkers<'a, N: Naming> {
-    pub shares: WorkerShares<N>,
-    pub articles: SpoolSync<'a>,
-}
 
 // What is left of a feeder.
 #[derive(Drop)]
@@ -42,27 +15,6 @@ struct LeftFeeder<N: Naming> {
     share: FeederShare<N>,
     fault: Option<FeederFault>,
     unread: UnreadPaths,
-}
-
-/// What the intake leaves, its share, and what went wrong.
-pub(crate) fn left_by<'a, F, W, N: Naming>(
-    intake: IntakeWorker<'a, F, W, N>,
-) -> (LeftIntake<'a, F>, IntakeShare<N>, FeedEnd) {
-    let IntakeWorker {
-        share,
-        status,
-        acknowledged,
-        stop,
-        has_no_status,
-        end,
-        ..
-    } = intake;
-    let left = LeftIntake {
-        status: (status, has_no_status),
-        stop,
-        acknowledged,
-    };
-    (left, share, end)
 }
 
 fn left_by_feeder<S: ArticleSource + Drop, C: Net + Drop, N: Naming>(
@@ -117,44 +69,6 @@ pub(crate) fn ended_workers<'a, S: ArticleSource + Drop, C: Net + Drop, N: Namin
     })
 }
 
-/// Ends a run whose workers have ended: what is still pending is flushed, and it is reported what went wrong and what
-/// is still owed.
-pub(crate) fn close_run<
-    D: Disk + Drop,
-    N: Naming,
-    R: Wait + Clock + Log,
-    F: AllocGlobal + Files<File = File>,
-    H,
-    C,
-    L,
->(
-    env: &RunEnv<'_, R, F, H, C, L>,
-    post: Post<D, N>,
-    names: &[PeerName],
-    ended: Option<LeftWorkers<'_, N>>,
-    left: LeftIntake<'_, F>,
-    end: &mut FeedEnd,
-) {
-    let LeftIntake {
-        status,
-        stop,
-        acknowledged,
-    } = left;
-    let (shares, mut articles) = match ended {
-        Some(LeftWorkers { shares, articles }) => (Some(shares), Some(articles)),
-        None => (None, None),
-    };
-    close(env.rt, post, shares, names, status, articles.as_mut(), end);
-    if let Some(articles) = articles {
-        articles.report(env.rt, end);
-    }
-    let is_asked = stop.as_ref().is_some_and(|stop| stop.was_seen());
-    if is_asked && end.tapes.is_empty() && !end.lacks_resources {
-        log_end(env.rt, env.version, acknowledged.number());
-    }
-    remove_stop(env.rt, stop, end);
-}
-
 // Adds what went wrong at work: the flusher's fault first, since the others meet the same fault after it.
 fn add_faults(
     alloc: Global,
@@ -180,18 +94,5 @@ fn feeder_error(alloc: Global, names: &[PeerName], fault: FeederFault) -> RunErr
     match fault {
         FeederFault::Post(fault) => RunError::post(alloc, names, fault),
         FeederFault::NoPeer | FeederFault::System => RunError::OutOfResources,
-    }
-}
-
-// Adds the files that the feeders could not read, each once.
-fn add_unread(first: UnreadPaths, second: UnreadPaths, end: &mut FeedEnd) {
-    let first = first.into_paths();
-    for path in second.into_paths() {
-        if !first.contains(&path) {
-            RunError::File(FileError::Unread(path)).add_to(end);
-        }
-    }
-    for path in first {
-        RunError::File(FileError::Unread(path)).add_to(end);
     }
 }

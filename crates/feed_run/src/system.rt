@@ -1,14 +1,12 @@
 // Feeding peers for `cli`, with the system's files, sockets and threads.
-use crate::run::{RunEnv, feed};
-use crate::spool::HostSpools;
-use crate::targets::by_name;
-use crate::thread_runtime::{LoggedSystem, ThreadRuntime};
+use crate::run::feed;
 use feed_conf::Conf;
 use feed_ends::{FeedEnd, Feeds, Listing, Source};
 use log::Log;
 use log_writer::{LogWriter, RunLog};
 use owed_list::list_owed;
 use resolver::{LookUp, SystemLookUp};
+use run_parts::{HostSpools, LoggedSystem, Request, RunEnv, ThreadRuntime, by_name};
 use std::alloc::Global;
 use std::fs::File;
 use std::io::Write;
@@ -45,7 +43,12 @@ pub fn feed_with<
         version,
     };
     let mut end = FeedEnd::well(files.alloc());
-    if let Err(error) = feed(&env, conf, path, source, drops_missing, out, &mut end) {
+    let request = Request {
+        path,
+        source,
+        drops_missing,
+    };
+    if let Err(error) = feed(&env, conf, request, out, &mut end) {
         error.log_unopened(rt);
         error.add_to(&mut end);
     }

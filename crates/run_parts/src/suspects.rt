@@ -29,7 +29,7 @@ pub(crate) fn suspects_of<R: Log, F: AllocGlobal + Files<File = File>>(
 
 /// Keeps the suspects of each peer for the next run, in the backlog directory at this path. If memory is refused, those
 /// of earlier runs stay there.
-pub(crate) fn keep_all<R: Wait + Log, F: AllocGlobal + Files<File = File>>(
+pub fn keep_all<R: Wait + Log, F: AllocGlobal + Files<File = File>>(
     rt: &R,
     files: &F,
     directory: &str,

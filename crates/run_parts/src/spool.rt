@@ -2,6 +2,7 @@
 ghost use Rattle.std.specs.Prelude.{IfOk};
 ghost use Rattle.article_store.specs.Finds.{IsFound};
 
+use crate::places::{copy_of, text_of};
 use article_store::{Articles, Folder, Found, SpoolDirectory, StoreFault, Unsendable};
 use feed_conf::Conf;
 use funnel::{MsgId, Token};
@@ -123,13 +124,6 @@ impl SpoolPlaces {
     }
 }
 
-fn copy_of(alloc: Global, path: Option<&[u8]>) -> Result<Option<Vec<u8>>, AllocError> {
-    match path {
-        Some(path) => Ok(Some(Vec::from_slice(alloc, path)?)),
-        None => Ok(None),
-    }
-}
-
 fn as_text(path: &[u8]) -> Result<&str, &[u8]> {
     str::from_utf8(path).map_err(|_| path)
 }
@@ -141,14 +135,9 @@ fn as_text_if_any(path: &Option<Vec<u8>>) -> Result<Option<&str>, &[u8]> {
     }
 }
 
-// A path, as text.
-fn text_of(path: &[u8]) -> &str {
-    str::from_utf8(path).unwrap_or("")
-}
-
 /// Where the articles of a run are, as texts.
 #[derive(Clone, Copy)]
-pub(crate) struct SpoolPaths<'a> {
+pub struct SpoolPaths<'a> {
     /// The directory of copies.
     pub copies: &'a str,
     /// innd's spool, if its articles are read there.
@@ -158,7 +147,7 @@ pub(crate) struct SpoolPaths<'a> {
 }
 
 /// Opens the store of articles, once for each feeder.
-pub(crate) trait Spools {
+pub trait Spools {
     /// A store of articles.
     type Store;
 
@@ -177,7 +166,7 @@ pub(crate) trait Spools {
 
 /// Opens stores of the system's files.
 #[derive(Drop)]
-pub(crate) struct HostSpools {
+pub struct HostSpools {
     pub host: HostRuntime,
 }
 
@@ -204,7 +193,7 @@ impl Spools for HostSpools {
 
 /// The system's files in which articles are.
 #[derive(Drop)]
-pub(crate) enum HostSpool {
+pub enum HostSpool {
     /// A directory of copies alone.
     Copies(Folder<HostRuntime>),
     /// innd's own spool, and the copies.

@@ -1,16 +1,17 @@
 // Where each peer is and how it is fed.
 ghost use Rattle.std.specs.Prelude.{◌≡◌, IfOk, min};
-ghost use Rattle.feed_run.specs.Targets.{AreHosts, AreTargetsFrom, IsHostOf, IsTargetOf};
+ghost use Rattle.run_parts.specs.Targets.{AreHosts, AreTargetsFrom, IsHostOf, IsTargetOf};
 
 use conn_core::Options;
 use connections::PeerTarget;
 use feed_conf::{Conf, PeerConf};
+use intake::{Accounts, account_of};
 use resolver::Host;
 use std::alloc::{AllocError, Global};
 use std::str;
 
 /// The peers of these settings, in byte order of their names.
-pub(crate) fn by_name(conf: Conf) -> Vec<PeerConf> {
+pub fn by_name(conf: Conf) -> Vec<PeerConf> {
     let mut peers = conf.into_peers();
     peers.sort_unstable_by(|a, b| a.name.bytes().cmp(b.name.bytes()));
     peers
@@ -50,7 +51,7 @@ fn port_of(peer: &PeerConf) -> u16
     peer.port.min(65_535) as u16
 }
 
-/// The targets of these peers, in their order, if a peer may have `most` connections.
+/// The targets of these peers, in their order, if a peer may have `most` connections, with their accounts.
 ///
 /// # Errors
 /// Memory was refused.
@@ -58,12 +59,13 @@ pub(crate) fn targets_of(
     alloc: Global,
     peers: &[PeerConf],
     most: u64,
+    accounts: &Accounts,
 ) -> Result<Vec<PeerTarget>, AllocError>
-    ensures { IfOk result (λ targets. AreTargetsFrom most 0 peers.now targets.items) }
+    ensures { IfOk result (λ targets. AreTargetsFrom most accounts.now 0 peers.now targets.items) }
 {
     let mut targets = Vec::new(alloc);
     for (index, peer) in peers.iter().enumerate() {
-        targets.push(target_of(alloc, index, peer, most)?)?;
+        targets.push(target_of(alloc, index, peer, most, accounts)?)?;
     }
     Ok(targets)
 }
@@ -74,13 +76,15 @@ fn target_of(
     index: usize,
     peer: &PeerConf,
     most: u64,
+    accounts: &Accounts,
 ) -> Result<PeerTarget, AllocError>
-    ensures { IfOk result (IsTargetOf most index peer.now) }
+    ensures { IfOk result (IsTargetOf most accounts.now index peer.now) }
 {
     Ok(PeerTarget {
         peer: index,
         name: peer.name.clone()?,
         addresses: Vec::new(alloc),
+        account: account_of(alloc, accounts, peer)?,
         options: Options {
             streaming: peer.streaming,
             max_queue: peer.max_queue,

@@ -1,6 +1,8 @@
 -- Where each peer is and how it is fed, by the settings.
 use Rattle.std.specs.Prelude.{◌≡◌, ◌⊎◌, ◌+◌, ℕ, List, [], ◌∷◌, min, string_bytes}
+use Rattle.std.specs.Option.{option_map}
 use Rattle.std.specs.Str.{IsUtf8}
+use Rattle.login.specs.Accounts.{first_entry, lines_of, login_of, parts_of}
 use Rattle.conn_core.specs.declared.options.Options.{Options}
 use Rattle.feed_conf.specs.declared.conf.PeerConf.{PeerConf}
 use Rattle.connections.specs.declared.target.PeerTarget.{PeerTarget}
@@ -30,19 +32,22 @@ options_of conf = record {
   response_timeout = conf.response_timeout;
 }
 
--- The target of the peer with these settings, whose station has this index, if a peer may have `most` connections.
-pub record IsTargetOf (most index : ℕ) (conf : PeerConf) (target : PeerTarget) : Type 0 where
+-- The target of the peer with these settings, whose station has this index, if a peer may have `most` connections. The
+-- accounts are the text of their file: the peer is logged in to with the first of its host.
+pub record IsTargetOf (most : ℕ) (accounts : List ℕ) (index : ℕ) (conf : PeerConf) (target : PeerTarget) : Type 0 where
   pub station : target.peer ≡ index
   pub name : target.name ≡ conf.name
   pub addresses : target.addresses.items ≡ []
+  pub account : option_map parts_of target.account
+      ≡ option_map login_of (first_entry conf.ip_name.items (lines_of accounts))
   pub connections : target.connections ≡ min conf.max_connections most
   pub waits : (target.first_wait ≡ conf.first_wait) × (target.most_wait ≡ conf.most_wait)
   pub options : target.options ≡ options_of conf
 
 -- a target for each peer, in order, the first for the station with this index
-abbrev pub AreTargetsFrom : ℕ → ℕ → List PeerConf → List PeerTarget → Type 0
-AreTargetsFrom most index [] [] = Unit {0}
-AreTargetsFrom most index (conf ∷ confs) (target ∷ targets) =
-    IsTargetOf most index conf target × AreTargetsFrom most (index + 1) confs targets
-AreTargetsFrom most index [] (target ∷ targets) = ⊥
-AreTargetsFrom most index (conf ∷ confs) [] = ⊥
+abbrev pub AreTargetsFrom : ℕ → List ℕ → ℕ → List PeerConf → List PeerTarget → Type 0
+AreTargetsFrom most accounts index [] [] = Unit {0}
+AreTargetsFrom most accounts index (conf ∷ confs) (target ∷ targets) =
+    IsTargetOf most accounts index conf target × AreTargetsFrom most accounts (index + 1) confs targets
+AreTargetsFrom most accounts index [] (target ∷ targets) = ⊥
+AreTargetsFrom most accounts index (conf ∷ confs) [] = ⊥

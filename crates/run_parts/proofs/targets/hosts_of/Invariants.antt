@@ -1,6 +1,6 @@
 use Rattle.std.specs.Prelude.{take}
-use Rattle.feed_run.specs.Targets.{AreHosts}
-use Rattle.feed_run.proofs.targets.hosts_of.Given as goal
+use Rattle.run_parts.specs.Targets.{AreHosts}
+use Rattle.run_parts.proofs.targets.hosts_of.Given as goal
 
 -- the hosts of the peers so far
 abbrev pub invariant-loop-peer : goal.invariant-loop-peer

@@ -39,7 +39,7 @@ impl System for HostRuntime {
 /// The system's clock, and a log that a thread of its own writes to standard error. Without such a thread, because none
 /// was or could be started, it is standard error itself, where lines begin with `head`.
 #[derive(Drop)]
-pub(crate) struct LoggedSystem {
+pub struct LoggedSystem {
     pub host: HostRuntime,
     pub head: LineHead,
     pub log: Option<LogWriter>,

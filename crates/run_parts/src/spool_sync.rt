@@ -11,14 +11,14 @@ use std::sync::Wait;
 
 /// The buffers that are to be synced, by the list of them at this path; `None` if none is.
 #[derive(Drop)]
-pub(crate) struct SyncedBuffers {
+pub struct SyncedBuffers {
     pub buffers: Option<BufferSync<HostRuntime>>,
     pub path: Vec<u8>,
 }
 
 /// Syncs the buffers that lines name.
 #[derive(Drop)]
-pub(crate) struct SpoolSync<'a> {
+pub struct SpoolSync<'a> {
     synced: SyncedBuffers,
     named: &'a NamedBuffers,
     // Why a buffer could not be synced, and whether that was logged.

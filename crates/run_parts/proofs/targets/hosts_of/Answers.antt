@@ -1,5 +1,5 @@
-use Rattle.feed_run.proofs.TargetLists.{hosts_step}
-use Rattle.feed_run.proofs.targets.hosts_of.Goals as goal
+use Rattle.run_parts.proofs.TargetLists.{hosts_step}
+use Rattle.run_parts.proofs.targets.hosts_of.Goals as goal
 
 pub loop-peer-preserved : goal.loop-peer-preserved
 loop-peer-preserved c =
