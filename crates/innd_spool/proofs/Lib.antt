@@ -1,2 +1,4 @@
+mod Blocks
 pub mod Maps
 pub mod Moments
+pub mod Pieces

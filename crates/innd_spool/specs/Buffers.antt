@@ -1,5 +1,5 @@
 -- What looks at a buffer of CNFS show of an article, while innd may write in it (INN's storage/cnfs).
-use Rattle.std.specs.Prelude.{◌≡◌, ◌≢◌, ◌<◌, ◌≤◌, ◌+◌, ◌*◌, ◌/◌, ℕ, Bool, false, true, List, length, slice_range}
+use Rattle.std.specs.Prelude.{◌≡◌, ◌≢◌, ◌<◌, ◌≤◌, ◌+◌, ◌*◌, ◌/◌, ◌⊎◌, ℕ, Bool, false, true, List, length, slice_range}
 use Rattle.std.specs.Prelude.{if◌then◌else◌}
 use Rattle.std.specs.Prelude.{Option, None, Some, Ok, take}
 use Rattle.dot_codec.specs.Lines.{longest_text}
@@ -53,18 +53,16 @@ abbrev pub ShowsSize : Contents → ℕ → Place → List ℕ → Option ℕ �
 ShowsSize contents moment place head size =
     Shows contents moment place.offset head × (size_by place.header place.offset (head_of head) ≡ size)
 
--- The signs that a buffer no longer has an article: its place has been written over; its block's bit is clear; no
--- article begins there; or, once its text was read, another head is there, or the bit is clear. A look takes one tick.
-pub data IsGoneBy (contents : Contents) (moment tick : ℕ) (token : CnfsToken) : Type 0 where
-  written_over : ShowsPlaceOf contents moment token None → IsGoneBy contents moment tick token
-  bit_clear : ShowsBit contents (moment + tick) token.block false → IsGoneBy contents moment tick token
-  no_article : (place : Place) (head : List ℕ) → ShowsPlaceOf contents moment token (Some place)
-      → ShowsSize contents (moment + tick + tick) place head None → IsGoneBy contents moment tick token
-  other_head : (offset : ℕ) (head other : List ℕ) → Shows contents (moment + tick + tick) offset head
-      → Shows contents (moment + tick + tick + tick + tick) offset other → other ≢ head
-      → IsGoneBy contents moment tick token
-  bit_cleared : ShowsBit contents (moment + tick + tick + tick + tick + tick) token.block false
-      → IsGoneBy contents moment tick token
+-- Looks from this moment on find the same head at this offset, and the block's bit.
+abbrev pub IsUnchanged : Contents → ℕ → ℕ → ℕ → List ℕ → ℕ → Type 0
+IsUnchanged contents moment tick offset head block =
+    Shows contents moment offset head × ShowsBit contents (moment + tick) block true
+
+-- Looks from this moment on find another head at this offset, or that the block's bit is clear.
+pub data IsChanged (contents : Contents) (moment tick offset : ℕ) (head : List ℕ) (block : ℕ) : Type 0 where
+  other_head : (other : List ℕ) → Shows contents moment offset other → other ≢ head
+      → IsChanged contents moment tick offset head block
+  bit_cleared : ShowsBit contents (moment + tick) block false → IsChanged contents moment tick offset head block
 
 -- An article of the token is at a place, with this head: the header, the bit and the head say so.
 pub record Begins (contents : Contents) (moment tick : ℕ) (token : CnfsToken) (place : Place) (head : List ℕ) (size : ℕ)
@@ -73,14 +71,37 @@ pub record Begins (contents : Contents) (moment tick : ℕ) (token : CnfsToken) 
   pub bit : ShowsBit contents (moment + tick) token.block true
   pub head_is : ShowsSize contents (moment + tick + tick) place head (Some size)
 
+-- the moment at which a text was looked at: together with its head, or by the next look
+abbrev pub IsReadAt : ℕ → ℕ → ℕ → Type 0
+IsReadAt head tick read = (read ≡ head) ⊎ (read ≡ head + tick)
+
 -- These octets are the text of the token's article: after it was read, the head and the bit are what they were before.
 pub record IsTextBy (contents : Contents) (moment tick : ℕ) (token : CnfsToken) (octets : List ℕ) : Type 0 where
   pub place : Place
   pub head : List ℕ
+  pub read : ℕ
   pub begins : Begins contents moment tick token place head (length octets)
-  pub text : Shows contents (moment + tick + tick + tick) (place.offset + 24) octets
-  pub same_head : Shows contents (moment + tick + tick + tick + tick) place.offset head
-  pub same_bit : ShowsBit contents (moment + tick + tick + tick + tick + tick) token.block true
+  pub is_read : IsReadAt (moment + tick + tick) tick read
+  pub text : Shows contents read (place.offset + 24) octets
+  pub unchanged : IsUnchanged contents (read + tick) tick place.offset head token.block
+
+-- The signs that a buffer no longer has an article: its place has been written over; its block's bit is clear; no
+-- article begins there; or, once its text was read, another head is there, or the bit is clear. A look takes one tick.
+pub data IsGoneBy (contents : Contents) (moment tick : ℕ) (token : CnfsToken) : Type 0 where
+  written_over : ShowsPlaceOf contents moment token None → IsGoneBy contents moment tick token
+  bit_clear : ShowsBit contents (moment + tick) token.block false → IsGoneBy contents moment tick token
+  no_article : (place : Place) (head : List ℕ) → ShowsPlaceOf contents moment token (Some place)
+      → ShowsSize contents (moment + tick + tick) place head None → IsGoneBy contents moment tick token
+  changed : (place : Place) (head : List ℕ) (read size : ℕ) → Begins contents moment tick token place head size
+      → IsReadAt (moment + tick + tick) tick read
+      → IsChanged contents (read + tick) tick place.offset head token.block → IsGoneBy contents moment tick token
+
+-- What was read of a text that follows a head: what came with the head, or what a look of its own showed.
+pub data IsTextOf (contents : Contents) (moment tick after offset : ℕ) (came octets : List ℕ) : Type 0 where
+  with_head : (size : ℕ) → octets ≡ take size came → after ≡ moment
+      → IsTextOf contents moment tick after offset came octets
+  by_look : Shows contents moment (offset + 24) octets → after ≡ moment + tick
+      → IsTextOf contents moment tick after offset came octets
 
 -- what was seen of an article, by looks from this moment on; its octets are at the front of the room
 abbrev pub IsStoredBy : Contents → ℕ → ℕ → CnfsToken → List ℕ → Stored → Type 0

@@ -3,7 +3,8 @@ ghost use Rattle.std.specs.Prelude.{◌≡◌, ◌↔◌, Ok, true, IfOk, IsOk, 
 ghost use Rattle.innd_spool.specs.Files.{IsGoneFrom, IsParentOf, IsRead};
 
 use crate::faults::{named, not_mounted};
-use crate::files::{AtPath, is_directory_at, read_path};
+use crate::files::{AtPath, is_directory_at, read_own};
+use crate::texts::Form;
 use std::alloc::Global;
 use std::io;
 use std::rt::Files;
@@ -16,10 +17,10 @@ pub(crate) trait Paths {
     /// What it is that a look saw a directory at a path.
     ghost is_directory: { Self → List ℕ → Type 0 } = { λ _ _. Unit {0} };
 
-    /// Reads the file at a path, as [`read_path`] does.
+    /// Reads the file at a path, as [`read_own`] does.
     ///
     /// # Errors
-    /// Those of `read_path`.
+    /// Those of `read_own`.
     fn read(&self, path: &str, room: &mut Vec<u8>) -> io::Result<AtPath>
         ensures within { IfOk result (IsRead room.new.items) }
         ensures absent { result ≡ Ok AtPath.Nothing → is_absent self.now path.now };
@@ -34,7 +35,7 @@ pub(crate) trait Paths {
 
 impl<F: Files> Paths for F {
     fn read(&self, path: &str, room: &mut Vec<u8>) -> io::Result<AtPath> {
-        read_path(self, path, room)
+        read_own(self, path, Form::ByFirstLine, room)
     }
 
     fn has_directory(&self, path: &str) -> io::Result<bool> {

@@ -2,17 +2,18 @@
 use crate::buffers::Buffers;
 use innd_storage::BufferName;
 use std::alloc::{AllocError, Global};
+use std::fs::File;
 use std::io;
 use std::rt::Files;
 
 /// Syncs buffers of CNFS, in which innd writes without a sync. No buffer stays open between two calls.
 #[derive(Drop)]
-pub struct BufferSync<F: Files + Drop> {
+pub struct BufferSync<F: Files<File = File> + Drop> {
     files: F,
-    buffers: Buffers<F>,
+    buffers: Buffers,
 }
 
-impl<F: Files + Drop> BufferSync<F> {
+impl<F: Files<File = File> + Drop> BufferSync<F> {
     /// For the buffers that innd's `cycbuff.conf` at this path names. Only `sync` looks at files.
     ///
     /// # Errors

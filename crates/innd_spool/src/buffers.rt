@@ -9,7 +9,7 @@ use funnel::first_line;
 use innd_storage::{BufferName, CnfsToken, CycbuffLine, read_cycbuff_line};
 use std::alloc::{AllocError, Global};
 use std::collections::BTreeMap;
-use std::fs::OpenFile;
+use std::fs::{File, OpenFile};
 use std::rt::Files;
 use std::{io, str};
 
@@ -18,7 +18,7 @@ const CONFIGURATION: &str = "cycbuff.conf";
 
 /// The buffers, and those of their files that are open.
 #[derive(Drop)]
-pub(crate) struct Buffers<F: Files + Drop> {
+pub(crate) struct Buffers {
     alloc: Global,
     // The configuration's path, if there is one.
     path: Option<String>,
@@ -26,10 +26,10 @@ pub(crate) struct Buffers<F: Files + Drop> {
     paths: BTreeMap<Vec<u8>, String>,
     // Of the configuration that was read; `None` if none was.
     seen: Option<FileState>,
-    open: BTreeMap<Vec<u8>, F::File>,
+    open: BTreeMap<Vec<u8>, File>,
 }
 
-impl<F: Files + Drop> Buffers<F> {
+impl Buffers {
     /// The buffers that the configuration at this path names. It is not read yet.
     ///
     /// # Errors
@@ -80,7 +80,7 @@ impl<F: Files + Drop> Buffers<F> {
     ///
     /// # Errors
     /// The system's error; that there is no configuration, or that it has no such buffer.
-    pub fn open(&mut self, files: &F, name: &BufferName) -> io::Result<()>
+    pub fn open<F: Files<File = File>>(&mut self, files: &F, name: &BufferName) -> io::Result<()>
         ensures known { OnOk result (IsSome self.old.path) }
         ensures path { self.new.path ≡ self.old.path }
     {
@@ -95,7 +95,7 @@ impl<F: Files + Drop> Buffers<F> {
     ///
     /// # Errors
     /// Those of [`Buffers::open`].
-    pub fn sync(&mut self, files: &F, name: &BufferName) -> io::Result<()>
+    pub fn sync<F: Files<File = File>>(&mut self, files: &F, name: &BufferName) -> io::Result<()>
         ensures known { OnOk result (IsSome self.old.path) }
         ensures path { self.new.path ≡ self.old.path }
     {
@@ -107,7 +107,7 @@ impl<F: Files + Drop> Buffers<F> {
         }
     }
 
-    fn open_file(&self, files: &F, name: &BufferName) -> io::Result<F::File> {
+    fn open_file<F: Files<File = File>>(&self, files: &F, name: &BufferName) -> io::Result<File> {
         let Some(path) = self.paths.get(name.bytes()) else {
             return Err(no_buffer(self.alloc, name));
         };
@@ -118,7 +118,7 @@ impl<F: Files + Drop> Buffers<F> {
     }
 
     // Reads the configuration, unless it is the one that was read before.
-    fn read(&mut self, files: &F) -> io::Result<()>
+    fn read<F: Files>(&mut self, files: &F) -> io::Result<()>
         ensures known { OnOk result (IsSome self.old.path) }
         ensures path { self.new.path ≡ self.old.path }
     {

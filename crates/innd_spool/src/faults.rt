@@ -42,6 +42,11 @@ pub(crate) fn is_directory() -> io::Error {
     io::Error::from(ErrorKind::IsADirectory)
 }
 
+/// The buffer's file ends before the octets that were wanted.
+pub(crate) fn cut_off() -> io::Error {
+    io::Error::new(ErrorKind::UnexpectedEof, "failed to fill whole buffer")
+}
+
 /// The directory in which innd stored an article is missing.
 pub(crate) fn not_mounted(alloc: Global, directory: &str) -> io::Error {
     said(format!(in alloc; "{directory}: no such directory; is innd's spool mounted?"))

@@ -5,7 +5,8 @@ ghost use Rattle.std.specs.List.{list_any, slice_split};
 ghost use Rattle.innd_spool.specs.Files.{IsRead, is_absence, is_entry};
 
 use crate::faults::is_directory;
-use article_store::read_front;
+use crate::reads::read_octets;
+use crate::texts::Form;
 use std::alloc::AllocError;
 use std::fs::{self, File, Metadata};
 use std::io::{self, ErrorKind, Read};
@@ -30,12 +31,18 @@ pub(crate) struct FileState {
     modified: Option<SystemTime>,
 }
 
-/// Reads the file at a path into the front of the room: whole, or its first 16,777,217 octets.
+/// Reads the file at a path, which has an article in this form, into the front of the room, as [`read_octets`] does. It
+/// is looked at first.
 ///
 /// # Errors
 /// The system's error; [`ErrorKind::InvalidInput`] if what lies there is neither a file nor a directory, since to open
 /// a FIFO might never end.
-pub(crate) fn read_path<F: Files>(files: &F, path: &str, room: &mut Vec<u8>) -> io::Result<AtPath>
+pub(crate) fn read_path<F: Files>(
+    files: &F,
+    path: &str,
+    form: Form,
+    room: &mut Vec<u8>,
+) -> io::Result<AtPath>
     ensures within { IfOk result (IsRead room.new.items) }
 {
     match fs::metadata(files, path) {
@@ -44,9 +51,29 @@ pub(crate) fn read_path<F: Files>(files: &F, path: &str, room: &mut Vec<u8>) -> 
         Ok(_) => return Err(no_file()),
         Err(error) => return absent(error),
     }
-    match File::open(files, path) {
-        Ok(mut file) => Ok(AtPath::File(read_front(&mut file, room)?)),
-        Err(error) => absent(error),
+    read_own(files, path, form, room)
+}
+
+/// The same without that look: for paths where only innd makes anything, which are regular files and directories.
+///
+/// # Errors
+/// The system's error.
+pub(crate) fn read_own<F: Files>(
+    files: &F,
+    path: &str,
+    form: Form,
+    room: &mut Vec<u8>,
+) -> io::Result<AtPath>
+    ensures within { IfOk result (IsRead room.new.items) }
+{
+    let mut file = match File::open(files, path) {
+        Ok(file) => file,
+        Err(error) => return absent(error),
+    };
+    match read_octets(&mut file, form, room) {
+        Ok(count) => Ok(AtPath::File(count)),
+        Err(error) if error.kind() == ErrorKind::IsADirectory => Ok(AtPath::Directory),
+        Err(error) => Err(error),
     }
 }
 

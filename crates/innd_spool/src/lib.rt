@@ -17,6 +17,7 @@ mod faults;
 mod files;
 mod groups;
 mod looks;
+mod reads;
 mod spool;
 mod texts;
 

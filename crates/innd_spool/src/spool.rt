@@ -23,6 +23,7 @@ use innd_storage::{
     CnfsToken, StorageToken, TimehashToken, TradspoolToken, read_token, timehash_path,
 };
 use std::alloc::{AllocError, Global};
+use std::fs::File;
 use std::io::{self, ErrorKind};
 use std::rt::Files;
 use std::str;
@@ -31,16 +32,16 @@ use std::str;
 /// copies for all other tokens.
 ///
 /// The folder is also asked for articles that innd no longer has, and for those of methods that are not read here. A
-/// file of tradspool or timehash is looked at, opened, read and closed by each fetch; a buffer of CNFS stays open. The
+/// file of tradspool or timehash is opened, read and closed by each fetch; a buffer of CNFS stays open. The
 /// octets of an article are read into room that is reused, and copied from there once.
 #[derive(Drop)]
-pub struct InndSpool<F: Files + Drop> {
+pub struct InndSpool<F: Files<File = File> + Drop> {
     files: F,
     alloc: Global,
     // The directory of innd's articles, with a slash at its end.
     articles: String,
     groups: GroupMap,
-    buffers: Buffers<F>,
+    buffers: Buffers,
     // The directory of copies, with a slash at its end.
     folder: String,
     path: String,
@@ -53,7 +54,7 @@ pub struct InndSpool<F: Files + Drop> {
     cause: Option<Unsendable>,
 }
 
-impl<F: Files + Drop> InndSpool<F> {
+impl<F: Files<File = File> + Drop> InndSpool<F> {
     /// A store over innd's spool and a folder of copies. `spool` is the path that inn.conf(5) calls `pathspool`,
     /// `cycbuffs` that of innd's `cycbuff.conf`, if it keeps articles in CNFS, and `folder` that of the copies. Only
     /// fetches look at files.
@@ -225,14 +226,14 @@ impl<F: Files + Drop> InndSpool<F> {
         ensures named { IfOk result (IsNamed id.now) }
         ensures keeps { KeepsPlaces self.old self.new }
     {
-        match self.read_folder(token)? {
+        match self.read_folder(token, form)? {
             AtPath::File(count) => self.judge(count, form, id),
             _ => Ok(Found::Gone),
         }
     }
 
-    // Reads the token's file in the folder into the room. A token is ASCII, so its octets are text.
-    fn read_folder(&mut self, token: &Token) -> io::Result<AtPath>
+    // Reads the token's file in the folder, in this form, into the room. A token is ASCII, so its octets are text.
+    fn read_folder(&mut self, token: &Token, form: Form) -> io::Result<AtPath>
         ensures within { IfOk result (IsRead self.new.room.items) }
         ensures keeps { KeepsPlaces self.old self.new }
     {
@@ -240,7 +241,7 @@ impl<F: Files + Drop> InndSpool<F> {
             return Err(io::Error::from(ErrorKind::InvalidFilename));
         };
         set_path(&mut self.path, self.folder.as_str(), name)?;
-        read_path(&self.files, self.path.as_str(), &mut self.room)
+        read_path(&self.files, self.path.as_str(), form, &mut self.room)
     }
 
     // The folder's answer, with the reason kept if it has none.
@@ -266,7 +267,7 @@ impl<F: Files + Drop> InndSpool<F> {
     }
 }
 
-impl<F: Files + Drop> Articles for InndSpool<F> {
+impl<F: Files<File = File> + Drop> Articles for InndSpool<F> {
     /// The folder's article of this token. What innd has under it may be another article, and only its message-id
     /// could tell: see [`SpoolDirectory::fetch_for`].
     ///
@@ -275,15 +276,16 @@ impl<F: Files + Drop> Articles for InndSpool<F> {
     fn fetch(&mut self, token: &Token) -> Result<Found, StoreFault>
         ensures sendable { IfOk result IsFound }
     {
-        match self.read_folder(token) {
-            Ok(AtPath::File(count)) => Ok(self.as_article(count, folder_form(token))?),
+        let form = folder_form(token);
+        match self.read_folder(token, form) {
+            Ok(AtPath::File(count)) => Ok(self.as_article(count, form)?),
             Ok(_) => Ok(Found::Gone),
             Err(error) => self.fail(error),
         }
     }
 }
 
-impl<F: Files + Drop> SpoolDirectory for InndSpool<F> {
+impl<F: Files<File = File> + Drop> SpoolDirectory for InndSpool<F> {
     fn fetch_for(&mut self, token: &Token, id: &MsgId) -> Result<Found, StoreFault>
         ensures sendable { IfOk result IsFound }
         ensures named { IfOk result (IsNamed id.now) }

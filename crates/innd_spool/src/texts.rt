@@ -99,7 +99,8 @@ fn text_in(alloc: Global, octets: &[u8], form: Form) -> Result<Option<Vec<u8>>, 
     }
 }
 
-fn is_in_wire_format(octets: &[u8], form: Form) -> bool
+/// Whether octets that lie in this form are in wire format.
+pub(crate) fn is_in_wire_format(octets: &[u8], form: Form) -> bool
     ensures { result ≡ is_in_wire_format form octets.now }
 {
     match form {
