@@ -1,11 +1,11 @@
 -- What the calls of a side leave.
-use Rattle.std.specs.Prelude.{◌≡◌, ◌≤◌, ◌+◌, ◌-◌, ◌^◌, ◌++◌, ℕ, List, Some, length, min}
+use Rattle.std.specs.Prelude.{◌≡◌, ◌≢◌, ◌≤◌, ◌+◌, ◌-◌, ◌^◌, ◌++◌, ℕ, List, [], Some, length, min}
 use Rattle.crossbeam_queue.specs.Passes.{view}
 use Rattle.disk_model.specs.declared.Disk.{Ghosts}
 use Rattle.ledger_core.specs.declared.note.Note.{Note}
 use Rattle.recovery.specs.Notes.{History, noted_all}
 use Rattle.recovery.specs.Tape.{StandsFor}
-use Rattle.recovery.specs.Words.{AreHonest, flushed_of, ledger_of, place_of}
+use Rattle.recovery.specs.Words.{AreHonest, IsBroken, flushed_of, ledger_of, place_of}
 use Rattle.recovery.specs.declared.fault.TapeFault.{TapeFault}
 use Rattle.note_queue.specs.Calls.{IsRefusedFor}
 use Rattle.note_queue.specs.Owns.{AreAllOnDisks, put_on}
@@ -31,11 +31,12 @@ module _ {D : Type 0} {g : Ghosts D} where
     pub rises : AreHonest old.tape → flushed_of old.tape ≤ flushed_of new.tape
 
   -- More of the notes that it received were put on its tape, in their order: the tape stands for each history that it
-  -- stood for, followed by these. What is acknowledged is as before.
+  -- stood for, followed by these. A tape works that takes a note. What is acknowledged is as before.
   pub record PutsMore (old new : Side D g) : Type 0 where
     pub more : List Note
     pub put : put_by new ≡ put_by old ++ more
     pub stands : (h : History) → StandsFor old.tape h → StandsFor new.tape (noted_all h more)
+    pub worked : more ≢ [] → IsBroken old.tape → ⊥
     pub since : new.since ≡ old.since
     pub flushed : AreHonest old.tape → flushed_of new.tape ≡ flushed_of old.tape
 

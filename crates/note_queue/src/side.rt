@@ -251,6 +251,7 @@ fn put<D: Disk>(tape: &mut Tape<D>, kept: &mut Option<Note>, note: Note) -> Resu
         → ∥ IsOwner tape.new base since (put_on (notes ++ note ∷ []) kept.new) ∥₁ }
     ensures takes { (h : History) → StandsFor tape.old h → Takes (note ∷ []) h tape.new result }
     ensures ok { OnOk result (kept.new ≡ None) }
+    ensures worked { OnOk result (IsBroken tape.old → ⊥) }
     ensures err { OnErr result (kept.new ≡ Some note) }
     ensures refused { IfErr result (IsRefusedFor tape.new note) }
     ensures keeps { IsNotCalled tape.old tape.new }

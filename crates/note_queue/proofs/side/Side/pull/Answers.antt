@@ -17,7 +17,7 @@ returns-in_err-take_one-clause-moments g c =
     let new = c.take_one.new.self in
     let log = view new.pass in
     let before = c.loop.invariant in
-    let puts = puts_then old c.loop.self new before.1.disks before.3 c.take_one.ensures.puts in
+    let puts = puts_then old c.loop.self new before.1 before.3 c.take_one.ensures.puts in
     pulled old.tape new.tape log.got_on new.since log.got new.kept
     (c.take_one.ensures.keeps.disks ∙ before.1.disks) puts.flushed new.last new.owner
 
@@ -27,19 +27,19 @@ returns-then-not-branch-clause-moments g c =
     let new = c.take_one.new.self in
     let log = view new.pass in
     let before = c.loop.invariant in
-    let puts = puts_then old c.loop.self new before.1.disks before.3 c.take_one.ensures.puts in
+    let puts = puts_then old c.loop.self new before.1 before.3 c.take_one.ensures.puts in
     pulled old.tape new.tape log.got_on new.since log.got new.kept
     (c.take_one.ensures.keeps.disks ∙ before.1.disks) puts.flushed new.last new.owner
 
 pub returns-in_err-take_one-clause-puts : goal.returns-in_err-take_one-clause-puts
 returns-in_err-take_one-clause-puts g c =
     let before = c.loop.invariant in
-    puts_then c.args.self.now c.loop.self c.take_one.new.self before.1.disks before.3 c.take_one.ensures.puts
+    puts_then c.args.self.now c.loop.self c.take_one.new.self before.1 before.3 c.take_one.ensures.puts
 
 pub returns-then-not-branch-clause-puts : goal.returns-then-not-branch-clause-puts
 returns-then-not-branch-clause-puts g c =
     let before = c.loop.invariant in
-    puts_then c.args.self.now c.loop.self c.take_one.new.self before.1.disks before.3 c.take_one.ensures.puts
+    puts_then c.args.self.now c.loop.self c.take_one.new.self before.1 before.3 c.take_one.ensures.puts
 
 pub loop-preserved : goal.loop-preserved
 loop-preserved g c =
@@ -58,5 +58,5 @@ loop-preserved g c =
         );
       },
       search rules,
-      puts_then old mid new before.1.disks before.3 one.puts,
+      puts_then old mid new before.1 before.3 one.puts,
     )

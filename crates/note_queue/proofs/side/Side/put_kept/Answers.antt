@@ -35,5 +35,5 @@ returns-in-Some-clause-puts g c =
     let log = view old.pass in
     let put = c.put.ensures in
     let note = c.in-Some.note in
-    puts_one old _ note c.put.result put.takes put.ok put.err
+    puts_one old _ note c.put.result put.takes put.ok put.worked put.err
     (sym (kept_first log.got old.kept note (sym c.take.ensures.value ∙ c.in-Some.is) old.last)) refl

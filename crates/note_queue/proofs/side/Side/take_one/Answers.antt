@@ -51,7 +51,7 @@ returns-in_err-put-in-Some-clause-puts g c =
     let log = view old.pass in
     let note = c.in-Some.note in
     let put = c.put.ensures in
-    puts_one old _ note c.put.result put.takes put.ok put.err
+    puts_one old _ note c.put.result put.takes put.ok put.worked put.err
     (ap (λ (l : PassLog). l.got) c.in-Some.ensures.rule
     ∙ ap (λ o. put_on log.got o ++ note ∷ []) (sym c.requires.none)) refl
 
@@ -61,6 +61,6 @@ returns-in_ok-put-in-Some-clause-puts g c =
     let log = view old.pass in
     let note = c.in-Some.note in
     let put = c.put.ensures in
-    puts_one old _ note c.put.result put.takes put.ok put.err
+    puts_one old _ note c.put.result put.takes put.ok put.worked put.err
     (ap (λ (l : PassLog). l.got) c.in-Some.ensures.rule
     ∙ ap (λ o. put_on log.got o ++ note ∷ []) (sym c.requires.none)) refl
