@@ -1,6 +1,8 @@
 -- What a receipt is made of.
-use Rattle.std.specs.Prelude.{◌≡◌, ◌<◌, ◌≤◌, ◌+◌, ◌-◌, ◌^◌, ℕ, Bool, List, false, min, slice_index_or, true}
+use Rattle.std.specs.Prelude.{◌≡◌, ◌<◌, ◌≤◌, ◌+◌, ◌-◌, ◌^◌, ℕ, List, min, slice_index_or}
 use Rattle.disk_model.specs.declared.Disk.{Ghosts}
+use Rattle.flusher.specs.declared.sealing.PlaceProgress.{PlaceProgress}
+use Rattle.flusher.specs.declared.sealing.PlaceProgress.TheVariants.{Waits, Due, Done}
 use Rattle.peer_queue.specs.Front.{pending_of as front_pending, settled_of}
 use Rattle.peer_queue.specs.Words.{IsBroken, pending_of}
 use Rattle.peer_queue.specs.declared.front.Front.{Front}
@@ -16,9 +18,15 @@ noted_at front = min (settled_of front + front_pending front) (2 ^ 64 - 1)
 abbrev pub HasSettled : ℕ → Front → Type 0
 HasSettled count front = count ≤ settled_of front
 
--- all is settled at each of the first `count` places, by these flags of the places
-abbrev pub IsDoneBelow : ℕ → List Bool → Type 0
-IsDoneBelow count done = (place : ℕ) → place < count → slice_index_or done place false ≡ true
+-- so many notes are settled at a place, and that is all that a receipt found there
+abbrev pub SettlesDue : ℕ → PlaceProgress → Type 0
+SettlesDue count Waits = ⊥
+SettlesDue count (Due due) = due ≤ count
+SettlesDue count Done = ⊥
+
+-- all that a receipt found is settled at each of the first `count` places, by what it knows of the places
+abbrev pub IsDoneBelow : ℕ → List PlaceProgress → Type 0
+IsDoneBelow count places = (place : ℕ) → place < count → slice_index_or places place Waits ≡ Done
 
 module _ {D : Type 0} {g : Ghosts D} where
   -- the station works, and all its notes are acknowledged

@@ -1,16 +1,23 @@
 // What the flusher asks of a post.
-ghost use Rattle.std.specs.Prelude.{◌≡◌, ◌⊎◌, ◌+◌, ◌<◌, ◌^◌};
-ghost use Rattle.std.specs.Prelude.{length, max, slice_set, true, IfErr, IfOk, IsOk, OnOk};
+ghost use Rattle.std.specs.Prelude.{◌≡◌, ◌≢◌, ◌⊎◌, ◌+◌, ◌<◌, ◌^◌, []};
+ghost use Rattle.std.specs.Prelude.{◌↔◌, length, max, slice_set, IfErr, IfOk, IsErrOf, IsOk, OnErr, OnOk};
 ghost use Rattle.flusher.specs.Faults.{IsDiskFault, IsFlushAllFault, IsFlushWorkingFault, IsOfPeer, IsPartFault};
 ghost use Rattle.flusher.specs.Faults.{IsRotateAllFault, IsRoundFault, IsSealFault, IsWorkingFlushFault};
+ghost use Rattle.flusher.specs.Flushes.{Acknowledges};
 ghost use Rattle.flusher.specs.Sealed.{IsDoneBelow, IsSealed};
+ghost use Rattle.flusher.specs.Sees.{RefusesSeeing, Sees, seen_notes};
+ghost use Rattle.flusher.specs.declared.sealing.PlaceProgress.{PlaceProgress};
+ghost use Rattle.recovery.specs.Notes.{History};
 ghost use Rattle.recovery.specs.Rotates.{RefusesRotation};
-ghost use Rattle.recovery.specs.Words.{IsDue, IsRotateFault, generation_of, ledger_of};
+ghost use Rattle.recovery.specs.Takes.{Takes};
+ghost use Rattle.recovery.specs.Tape.{StandsFor};
+ghost use Rattle.recovery.specs.Words.{IsBroken, IsDue, IsNoteFault, IsRotateFault, disks_of, faults_of};
+ghost use Rattle.recovery.specs.Words.{generation_of, ledger_of};
 
 use crate::article_sync::ArticleSync;
 use crate::pace::{Pace, Place, Who};
 use crate::post::Intake;
-use crate::sealing::{Due, Sealing, SyncedLine};
+use crate::sealing::{Sealing, SyncedLine};
 use crate::tape_desk::Flush;
 use crate::{Naming, Post, PostFault, Receipt};
 use disk_model::Disk;
@@ -79,23 +86,25 @@ impl<D: Disk, N: Naming> Post<D, N> {
         peer: usize,
         sealing: &mut Sealing,
     ) -> Result<(), PostFault>
-        requires peer { (peer < length self.now.names) × (peer < length sealing.old.done.items) }
-        ensures done { OnOk result
-            (sealing.new.done.items ≡ slice_set sealing.old.done.items peer true) }
+        requires peer { (peer < length self.now.names)
+            × (peer < length sealing.old.places.items) }
+        ensures done { OnOk result (sealing.new.places.items
+            ≡ slice_set sealing.old.places.items peer PlaceProgress.Done) }
         ensures number { sealing.new.number ≡ sealing.old.number }
         ensures kinds { IfErr result (IsPartFault peer IsRoundFault) }
     {
         let due = self.due(rt, peer, sealing)?;
-        let settlement = self.settle_peer(rt, pace, peer, due.count())?;
-        sealing.add(due, settlement);
+        let settlement = self.settle_peer(rt, pace, peer, due)?;
+        sealing.add(settlement);
         Ok(())
     }
 
-    // What is due at a peer for this receipt.
-    fn due<R: Wait>(&self, rt: &R, peer: usize, sealing: &Sealing) -> Result<Due, PostFault>
-        requires { peer < length self.now.names }
-        ensures due { IfOk result
-            (λ due. (due.number ≡ sealing.now.number) × (due.place ≡ peer)) }
+    // Looks at a peer's front for this receipt, and returns what is due there.
+    fn due<R: Wait>(&self, rt: &R, peer: usize, sealing: &mut Sealing) -> Result<u64, PostFault>
+        requires { (peer < length self.now.names) × (peer < length sealing.old.places.items) }
+        ensures due { IfOk result (λ due. sealing.new.places.items
+            ≡ slice_set sealing.old.places.items peer (PlaceProgress.Due due)) }
+        ensures number { sealing.new.number ≡ sealing.old.number }
         ensures kinds { IfErr result (λ e. e ≡ PostFault.Stranger peer) }
     {
         let desk = self.peers[peer].front.lock(rt);
@@ -107,7 +116,7 @@ impl<D: Disk, N: Naming> Post<D, N> {
 
     // Notes on the intake tape that all lines are acknowledged up to the number that was read before the flushes.
     fn seal<R: Wait>(&self, rt: &R, sealing: Sealing) -> Result<Receipt, PostFault>
-        requires { IsDoneBelow (length self.now.names) sealing.done.items }
+        requires { IsDoneBelow (length self.now.names) sealing.places.items }
         ensures number { IfOk result (λ receipt. receipt.acknowledged.number ≡ sealing.number) }
         ensures kinds { IfErr result (IsFlushAllFault (length self.now.names)) }
     {
@@ -212,30 +221,53 @@ impl<D: Disk, N: Naming> Post<D, N> {
 impl<D: Disk> Intake<D> {
     // Notes that all lines are acknowledged up to the number that was read before the flushes, and makes the receipt.
     fn seal<N: Naming>(&mut self, post: &Post<D, N>, sealing: Sealing) -> Result<Receipt, TapeFault>
-        requires { IsDoneBelow (length post.now.names) sealing.done.items }
+        requires { IsDoneBelow (length post.now.names) sealing.places.items }
         ensures mark { IfOk result (λ receipt. (receipt.acknowledged.number ≡ sealing.number)
             × ((ledger_of self.new.tape).mark
             ≡ max (ledger_of self.old.tape).mark receipt.acknowledged.number)) }
-        ensures kinds { IfErr result IsSealFault }
+        ensures sees { (h : History) → StandsFor self.old.tape h
+            → Sees sealing.number h self.old.tape self.new.tape result }
+        ensures refuses { RefusesSeeing self.old.tape self.new.tape result }
     {
         self.note_seen(sealing.number())?;
         Ok(sealing.receipt(post, self))
     }
 
-    // Notes that all lines up to this number are acknowledged.
+    // Notes that all lines up to this number are acknowledged, and puts that on the disks.
     fn note_seen(&mut self, number: u64) -> Result<(), TapeFault>
         ensures sealed { OnOk result (IsSealed number self.new.tape) }
         ensures mark { OnOk result ((ledger_of self.new.tape).mark
             ≡ max (ledger_of self.old.tape).mark number) }
-        ensures kinds { IfErr result IsSealFault }
+        ensures sees { (h : History) → StandsFor self.old.tape h
+            → Sees number h self.old.tape self.new.tape result }
+        ensures refuses { RefusesSeeing self.old.tape self.new.tape result }
     {
-        if number > self.tape.mark()
-            && let Err((_, fault)) = self.tape.note(Note::Seen { number })
-        {
-            return Err(fault);
-        }
+        self.see(number)?;
         self.tape.flush()?;
         Ok(())
+    }
+
+    // Notes this number, if it is above the tape's mark. It calls no disk.
+    fn see(&mut self, number: u64) -> Result<(), TapeFault>
+        ensures takes { (h : History) → StandsFor self.old.tape h
+            → Takes (seen_notes (ledger_of self.old.tape).mark number) h self.new.tape result }
+        ensures mark { OnOk result ((ledger_of self.new.tape).mark
+            ≡ max (ledger_of self.old.tape).mark number) }
+        ensures disks { disks_of self.new.tape ≡ disks_of self.old.tape }
+        ensures works { IsBroken self.old.tape ↔ IsBroken self.new.tape }
+        ensures broken { OnErr result
+            (IsErrOf result TapeFault.Broken ↔ IsBroken self.old.tape) }
+        ensures worked { OnOk result (seen_notes (ledger_of self.old.tape).mark number ≢ []
+            → IsBroken self.old.tape → ⊥) }
+        ensures kinds { IfErr result (λ e. IsSealFault e × IsNoteFault e) }
+    {
+        if number <= self.tape.mark() {
+            return Ok(());
+        }
+        match self.tape.note(Note::Seen { number }) {
+            Ok(()) => Ok(()),
+            Err((_, fault)) => Err(fault),
+        }
     }
 
     // Rewrites the intake tape, if that is due.
@@ -245,6 +277,9 @@ impl<D: Disk> Intake<D> {
             (generation_of self.new.tape ≡ generation_of self.old.tape + 1) }
         ensures refuses { IsDue self.old.tape
             → RefusesRotation self.old.tape self.new.tape result }
+        ensures acknowledges { IsDue self.old.tape → (h : History) → StandsFor self.old.tape h
+            → Acknowledges h self.old.tape self.new.tape result }
+        ensures quiet { OnOk result (faults_of self.new.tape ≡ faults_of self.old.tape) }
         ensures ledger { ledger_of self.new.tape ≡ ledger_of self.old.tape }
     {
         if self.tape.rotate_due() {

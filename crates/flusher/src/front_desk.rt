@@ -92,6 +92,7 @@ impl<N: Naming> FrontDesk<N> {
     ghost use Rattle.flusher.specs.Refuses.{RefusesClaim, RefusesOutcome, RefusesShed};
     ghost use Rattle.flusher.specs.Reports.{KeepsReport};
     ghost use Rattle.flusher.specs.Sealed.{HasSettled};
+    ghost use Rattle.flusher.specs.Sent.{NotesNothing, SendsNothing};
     ghost use Rattle.flusher.specs.Takes.{RefusesAtDesk, TakesAndCounts};
     ghost use Rattle.ledger_core.specs.Shape.{shape_totals};
     ghost use Rattle.note_queue.specs.Noted.{IsOnlySent};
@@ -123,6 +124,7 @@ impl<N: Naming> FrontDesk<N> {
             × IsSame (front_of self.old.seat.sender) (front_of self.new.seat.sender)) }
         ensures refuses { RefusesAtDesk mark.old number line.now.token line.now.id
             (front_of self.old.seat.sender) (front_of self.new.seat.sender) result }
+        ensures sends { SendsNothing self.old.seat self.new.seat }
         ensures part { mine.new.parts ≡ 1 }
         ensures keeps_report { KeepsReport self.old self.new }
         ensures keeps_ahead { self.new.ahead ≡ self.old.ahead }
@@ -163,7 +165,7 @@ impl<N: Naming> FrontDesk<N> {
             (front_of self.new.seat.sender) result }
         ensures kinds { IfErr result (λ e. IsEndFault e.1) }
         ensures unchanged { OnErr result (mine.new ≡ mine.old) }
-        ensures place { self.new.seat.place ≡ self.old.seat.place }
+        ensures sends { SendsNothing self.old.seat self.new.seat }
         ensures keeps_report { KeepsReport self.old self.new }
         ensures keeps_ahead { self.new.ahead ≡ self.old.ahead }
     {
@@ -196,7 +198,7 @@ impl<N: Naming> FrontDesk<N> {
         ensures given_back { OnErr result
             (GivesBack connection.0 now (front_of self.old.seat.sender)
             (front_of self.new.seat.sender)) }
-        ensures keeps { KeepsNotes (front_of self.old.seat.sender) (front_of self.new.seat.sender) }
+        ensures keeps { NotesNothing self.old.seat self.new.seat }
         ensures refuses { RefusesClaim now (front_of self.old.seat.sender)
             (front_of self.new.seat.sender) result }
         ensures kinds { IfErr result IsClaimFault }
@@ -277,6 +279,7 @@ impl<N: Naming> FrontDesk<N> {
     pub fn unclaim(&mut self, connection: CxnId, key: Key)
         ensures unclaims { Unclaims connection.0 key (front_of self.old.seat.sender)
             (front_of self.new.seat.sender) }
+        ensures sends { SendsNothing self.old.seat self.new.seat }
         ensures keeps_report { KeepsReport self.old self.new }
         ensures keeps_ahead { self.new.ahead ≡ self.old.ahead }
     {
@@ -291,6 +294,7 @@ impl<N: Naming> FrontDesk<N> {
         ensures places { places_of (front_of self.new.seat.sender)
             ≡ released connection.0 (places_of (front_of self.old.seat.sender)) }
         ensures keeps { KeepsNotes (front_of self.old.seat.sender) (front_of self.new.seat.sender) }
+        ensures sends { SendsNothing self.old.seat self.new.seat }
         ensures keeps_report { KeepsReport self.old self.new }
         ensures keeps_ahead { self.new.ahead ≡ self.old.ahead }
     {
@@ -314,6 +318,7 @@ impl<N: Naming> FrontDesk<N> {
         ensures kinds { IfErr result (λ e. IsPutOffFault e.1) }
         ensures unchanged { OnErr result
             (IsSame (front_of self.old.seat.sender) (front_of self.new.seat.sender)) }
+        ensures sends { SendsNothing self.old.seat self.new.seat }
         ensures keeps_report { KeepsReport self.old self.new }
         ensures keeps_ahead { self.new.ahead ≡ self.old.ahead }
     {
@@ -337,6 +342,7 @@ impl<N: Naming> FrontDesk<N> {
             (IsSame (front_of self.old.seat.sender) (front_of self.new.seat.sender)
             × (mine.new.amount ≡ mine.old.amount)) }
         ensures part { mine.new.parts ≡ 1 }
+        ensures sends { SendsNothing self.old.seat self.new.seat }
         ensures keeps_report { KeepsReport self.old self.new }
         ensures keeps_ahead { self.new.ahead ≡ self.old.ahead }
     {
@@ -382,6 +388,7 @@ impl<N: Naming> FrontDesk<N> {
         ensures learns { IsSome result → OnlyOutbox
             (Learns (flush.now.flushed.count - settled_of (front_of self.old.seat.sender)))
             (front_of self.old.seat.sender) (front_of self.new.seat.sender) }
+        ensures sends { SendsNothing self.old.seat self.new.seat }
         ensures reports { IsSome result → (self.new.has_failed ≡ false)
             × (self.new.acknowledged ≡ flush.now.totals) }
         ensures unchanged { IsNone result → self.new ≡ self.old }
@@ -409,6 +416,7 @@ impl<N: Naming> FrontDesk<N> {
             (front_of self.new.seat.sender) }
         ensures keeps { has_broken ≡ false
             → front_of self.new.seat.sender ≡ front_of self.old.seat.sender }
+        ensures sends { SendsNothing self.old.seat self.new.seat }
         ensures keeps_ahead { self.new.ahead ≡ self.old.ahead }
     {
         let FrontDesk {

@@ -41,7 +41,7 @@ pub use pace::{Free, Pace, Place, Who};
 pub use peer::{PostPeer, Sums};
 pub use post::Post;
 pub use reported::Reported;
-pub use sealing::{Receipt, SyncedLine, TakenLine};
+pub use sealing::{PlaceProgress, Receipt, SyncedLine, TakenLine};
 pub use share::{FeederShare, IntakeShare};
 pub use signals::Signals;
 pub use stray::Stray;

@@ -1,8 +1,8 @@
 // How a receipt is made.
-ghost use Rattle.std.specs.Prelude.{◌≡◌, ◌+◌, ◌<◌, ◌≤◌, ℕ, List, IfOk, false, length};
-ghost use Rattle.std.specs.Prelude.{replicate, slice_set, true};
+ghost use Rattle.std.specs.Prelude.{◌≡◌, ◌+◌, ◌<◌, ℕ, List, IfOk, length};
+ghost use Rattle.std.specs.Prelude.{replicate, slice_index_or, slice_set};
 ghost use Rattle.flusher.specs.Marks.{IsRaised};
-ghost use Rattle.flusher.specs.Sealed.{HasSettled, IsDoneBelow, IsSealed, noted_at};
+ghost use Rattle.flusher.specs.Sealed.{HasSettled, IsDoneBelow, IsSealed, SettlesDue, noted_at};
 ghost use Rattle.note_queue.specs.Words.{front_of};
 ghost use Rattle.recovery.specs.Words.{ledger_of};
 
@@ -122,29 +122,24 @@ impl SyncedLine {
     }
 }
 
-// A receipt that is being made: the number of the last line that was taken before the first flush, and for each place
-// whether all is settled there that was due. The places may come in any order.
+/// What a receipt that is being made knows of a place. No public call takes or returns one: it is public for the laws
+/// over all threads, which speak of it.
+#[derive(Clone, Copy)]
+pub enum PlaceProgress {
+    /// Nothing yet.
+    Waits,
+    /// It found so many notes at the place's front, as their tape counts them.
+    Due(u64),
+    /// As many as it found there are settled.
+    Done,
+}
+
+// A receipt that is being made: the number of the last line that was taken before the first flush, and what it knows of
+// each place. The places may come in any order.
 #[derive(Drop)]
 pub(crate) struct Sealing {
     number: u64,
-    done: Vec<bool>,
-}
-
-// What is to be settled at a place for the receipt of a number: all that had been noted there when its part began.
-#[derive(Clone, Copy)]
-pub(crate) struct Due {
-    number: u64,
-    place: usize,
-    count: u64,
-}
-
-impl Due {
-    // How many notes, as their tape counts them.
-    pub(crate) fn count(&self) -> u64
-        ensures { result ≡ self.now.count }
-    {
-        self.count
-    }
+    places: Vec<PlaceProgress>,
 }
 
 // `count` notes are settled at a place, as their tape counts them. Only a front that has settled them makes one.
@@ -182,11 +177,12 @@ impl Sealing {
         places: usize,
     ) -> Result<Sealing, AllocError>
         ensures number { IfOk result (λ sealing. sealing.number ≡ last.number) }
-        ensures none { IfOk result (λ sealing. sealing.done.items ≡ replicate places false) }
+        ensures none { IfOk result
+            (λ sealing. sealing.places.items ≡ replicate places PlaceProgress.Waits) }
     {
         Ok(Sealing {
             number: last.number,
-            done: vec![in alloc; false; places]?,
+            places: vec![in alloc; PlaceProgress::Waits; places]?,
         })
     }
 
@@ -197,27 +193,31 @@ impl Sealing {
         self.number
     }
 
-    // What has been noted at a front that is locked, after the number was read.
-    pub(crate) fn due<N: Naming>(&self, desk: &FrontDesk<N>) -> Due
-        ensures { (result.number ≡ self.now.number) × (result.place ≡ desk.now.seat.place)
-            × (result.count ≡ noted_at (front_of desk.now.seat.sender)) }
-    {
-        Due {
-            number: self.number(),
-            place: desk.seat.place,
-            count: desk.noted(),
-        }
-    }
-
-    // Adds a place at which all is settled that was due there for this receipt.
-    pub(crate) fn add(&mut self, due: Due, settlement: Settlement)
-        requires due { (due.number ≡ self.old.number) × (due.place < length self.old.done.items) }
-        requires settled { (settlement.place ≡ due.place) × (due.count ≤ settlement.count) }
-        ensures done { self.new.done.items ≡ slice_set self.old.done.items due.place true }
+    // Looks at a front that is locked, after the number was read: what is noted there is due at its place. Returns how
+    // many notes these are.
+    pub(crate) fn due<N: Naming>(&mut self, desk: &FrontDesk<N>) -> u64
+        requires { desk.now.seat.place < length self.old.places.items }
+        ensures count { result ≡ noted_at (front_of desk.now.seat.sender) }
+        ensures due { self.new.places.items
+            ≡ slice_set self.old.places.items desk.now.seat.place (PlaceProgress.Due result) }
         ensures number { self.new.number ≡ self.old.number }
     {
-        let _ = settlement;
-        self.done[due.place] = true;
+        let count = desk.noted();
+        self.places[desk.seat.place] = PlaceProgress::Due(count);
+        count
+    }
+
+    // Adds a place at which all is settled that was due there when this receipt looked. Then nothing is due there, so a
+    // place is added once for each look.
+    pub(crate) fn add(&mut self, settlement: Settlement)
+        requires place { settlement.place < length self.old.places.items }
+        requires due { SettlesDue settlement.count
+            (slice_index_or self.old.places.items settlement.place PlaceProgress.Waits) }
+        ensures done { self.new.places.items
+            ≡ slice_set self.old.places.items settlement.place PlaceProgress.Done }
+        ensures number { self.new.number ≡ self.old.number }
+    {
+        self.places[settlement.place] = PlaceProgress::Done;
     }
 
     // Makes the receipt, once all is settled at each place, and the number is on the intake tape's disks.
@@ -226,7 +226,7 @@ impl Sealing {
         post: &Post<D, N>,
         intake: &Intake<D>,
     ) -> Receipt
-        requires done { IsDoneBelow (length post.now.names) self.done.items }
+        requires done { IsDoneBelow (length post.now.names) self.places.items }
         requires sealed { IsSealed self.number intake.now.tape }
         ensures { result.acknowledged.number ≡ self.number }
     {

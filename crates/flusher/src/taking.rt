@@ -7,6 +7,7 @@ ghost use Rattle.flusher.specs.Marks.{IsRaised, IsRaisedBy, IsTakenAt, RefusesGo
 ghost use Rattle.flusher.specs.Refuses.{RefusesTaking};
 ghost use Rattle.flusher.specs.Reports.{KeepsReport};
 ghost use Rattle.flusher.specs.Room.{IsCountFull};
+ghost use Rattle.flusher.specs.Sent.{SendsNothing};
 ghost use Rattle.flusher.specs.Takes.{TakesLine};
 ghost use Rattle.note_queue.specs.Words.{front_of};
 ghost use Rattle.peer_queue.specs.Front.{IsSame};
@@ -253,6 +254,7 @@ impl<D: Disk, N: Naming> Post<D, N> {
             × (taken.new.amount ≡ taken.old.amount)
             × IsSame (front_of desk.old.seat.sender) (front_of desk.new.seat.sender)) }
         ensures kinds { IfErr result (IsLineFault (λ at. at ≡ peer)) }
+        ensures sends { SendsNothing desk.old.seat desk.new.seat }
         ensures part { taken.new.parts ≡ 1 }
         ensures keeps_report { KeepsReport desk.old desk.new }
     {
@@ -283,6 +285,7 @@ fn take_in<N: Naming>(
     ensures refuses { RefusesTaking peer (IsCountFull books.old) mark.old number
         (front_of desk.old.seat.sender) result }
     ensures kinds { IfErr result (IsLineFault (λ at. at ≡ peer)) }
+    ensures sends { SendsNothing desk.old.seat desk.new.seat }
     ensures part { taken.new.parts ≡ 1 }
     ensures keeps_report { KeepsReport desk.old desk.new }
 {

@@ -1,4 +1,4 @@
-use Rattle.std.proofs.Common.{ℕ, Some, sym, subst, inr}
+use Rattle.std.proofs.Common.{ℕ, Some, refl, sym, subst, inr, ◌∙◌}
 use Rattle.std.proofs.lemmas.Option.{MatchOption-at_some}
 use Rattle.note_queue.specs.Words.{front_of}
 use Rattle.flusher.specs.Claims.{Holds}
@@ -59,4 +59,4 @@ returns-in-Err-clause-keeps g c =
     (front_of c.unclaim.new.self) c.unclaim.result found.0
     (λ broken. not_err c.in_ok-key.field-0 Broken (claimed.refuses.broken.1 broken)) claimed.keeps found.2 u.ok u.broken
     u.not_held u.kinds in
-    back.0
+    record { notes = back.0; sends = record { pass = u.pass ∙ claimed.pass; place = refl } }

@@ -1,13 +1,15 @@
-use Rattle.std.proofs.Common.{◌<◌, arith}
-use Rattle.ledger_core.specs.State.{State}
-use Rattle.recovery.specs.Words.{ledger_of}
-use Rattle.flusher.proofs.Refused.{seal_fault_of, seen_taken}
+use Rattle.std.proofs.Common.{rules, ◌≡◌, sym, subst}
+use Rattle.std.specs.Prelude.{Err}
+use Rattle.flusher.specs.Sees.{Sees}
+use Rattle.flusher.proofs.Seeing.{sees_refused}
 use Rattle.flusher.proofs.post.Intake.note_seen.Goals as goal
 
-pub returns-clause-kinds : goal.returns-clause-kinds
-returns-clause-kinds g c =
-    let refuses = c.in-Err.ensures.refuses in
-    let state : State = ledger_of c.args.self.now.tape in
-    let above : state.mark < c.args.number = omega arith in
-    seal_fault_of c.in-Err.fault
-    (λ refused is. seen_taken state c.args.number refused above ((refuses.note refused).0 is).1) refuses.kinds
+pub returns-in_err-see-clause-sees : goal.returns-in_err-see-clause-sees
+returns-in_err-see-clause-sees g c h stands =
+    let old = c.args.self.now.tape in
+    let new = c.see.new.self.tape in
+    let e = c.in_err-see.ensures in
+    let fault = c.in_err-see.field-0.0 in
+    let is : c.from_residual.result ≡ Err fault = search rules in
+    subst (Sees c.args.number h old new) (sym is)
+    (sees_refused c.args.number h old new fault e.disks (e.takes h stands).stays e.kinds.1)
