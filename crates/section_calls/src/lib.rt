@@ -1,5 +1,5 @@
-//! That the laws of `section_steps` begin from what calls say: each function here makes one call, of a sender, of a
-//! side or of the intake's tape, and its contract is the record from which a law begins.
+//! That the laws of `section_steps` begin from what calls say: each function here makes one call, of a sender or of
+//! a side, and its contract is the record from which a law begins.
 //!
 //! Nothing stands on it, and nothing runs it.
 #![tactic(auto)]
@@ -8,7 +8,6 @@ ghost use Rattle.std.specs.Prelude.{true};
 ghost use Rattle.note_queue.specs.Relay.{IsAt};
 ghost use Rattle.note_queue.specs.Words.{sending, taking};
 ghost use Rattle.section_steps.specs.FrontClauses.{SaysFail, SaysKeep, SaysLearn, SaysMove, SaysSend};
-ghost use Rattle.section_steps.specs.Receipts.{SaysFlushIntake, SaysRotateIntake, SaysSeen};
 ghost use Rattle.section_steps.specs.SideClauses.{SaysFlush, SaysPull, SaysRead, SaysRotate};
 
 use conn_core::CxnId;
@@ -17,7 +16,7 @@ use disk_model::Disk;
 use ledger_core::{Debt, Key, Note};
 use note_queue::{PassLog, Relays, Sender, Side};
 use peer_queue::StationFault;
-use recovery::{Flushed, Tape, TapeFault};
+use recovery::{Flushed, TapeFault};
 use std::alloc::AllocError;
 use std::sync::Wait;
 
@@ -118,25 +117,4 @@ pub fn read_all<D: Disk>(side: &mut Side<D>, keys: &[Key]) -> Result<Vec<Debt>, 
     ensures { SaysRead side.old side.new }
 {
     side.debts(keys)
-}
-
-/// [`Tape::note`], of a number that is sealed.
-pub fn note_seen<D: Disk>(intake: &mut Tape<D>, number: u64) -> Result<(), (Note, TapeFault)>
-    ensures { SaysSeen number intake.old intake.new result }
-{
-    intake.note(Note::Seen { number })
-}
-
-/// [`Tape::flush`].
-pub fn flush_intake<D: Disk>(intake: &mut Tape<D>) -> Result<Flushed, TapeFault>
-    ensures { SaysFlushIntake intake.old intake.new result }
-{
-    intake.flush()
-}
-
-/// [`Tape::rotate`].
-pub fn rotate_intake<D: Disk>(intake: &mut Tape<D>) -> Result<u64, TapeFault>
-    ensures { SaysRotateIntake intake.old intake.new result }
-{
-    intake.rotate()
 }

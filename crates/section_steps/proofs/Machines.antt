@@ -1,49 +1,61 @@
 -- Each step of a machine is a section, or a few, of the post for which it stands.
-use Rattle.std.proofs.Common.{◌≡◌, ℕ, zero, suc, ◌+◌, ◌<◌, ◌≤◌, Bool, true, false, true≢false, None}
-use Rattle.std.proofs.Common.{Some}
-use Rattle.std.proofs.Common.{Option, List, [], ◌∷◌, ◌++◌, length, refl, sym, ap, ◌∙◌, subst, inl, inr, arith}
+use Rattle.std.proofs.Common.{◌≡◌, ℕ, zero, suc, ◌+◌, ◌<◌, ◌≤◌, ◌⊎◌, Bool, true}
+use Rattle.std.proofs.Common.{Some, List, [], ◌∷◌, ◌++◌, length, refl, sym, ap, ◌∙◌, subst, inl, inr, arith}
 use Rattle.std.proofs.Common.{append_assoc, append-nil, length-append, length-set}
-use Rattle.std.proofs.lemmas.List.{length-replicate}
 use Rattle.std.proofs.Math.ListN.{set}
 use Rattle.std.specs.Prelude.{Result, Ok, Err}
 use Rattle.std.specs.List.{AllZip, slice_get}
 use Rattle.crossbeam_queue.specs.Passes.{view}
 use Rattle.disk_model.specs.declared.Disk.{Ghosts}
 use Rattle.flusher.specs.Sealed.{IsDoneBelow}
+use Rattle.flusher.specs.declared.sealing.Receipt.{Receipt}
 use Rattle.ledger_core.specs.declared.note.Note.{Note}
 use Rattle.note_queue.specs.Words.{sending, tape_of}
 use Rattle.note_queue.specs.declared.sender.Sender.{Sender}
 use Rattle.note_queue.specs.declared.side.Side.{Side}
-use Rattle.recovery.specs.Words.{IsBroken, flushed_of}
+use Rattle.recovery.specs.Words.{IsBroken, IsDue, flushed_of}
 use Rattle.recovery.specs.declared.fault.TapeFault.{TapeFault}
 use Rattle.recovery.specs.declared.tape.Tape.{Tape}
-use Rattle.sections.specs.ListLaws.{get_once, get_set, get_within, zip_set_second}
-use Rattle.sections.specs.Post.{PostPast, Progress, SealingPast, StationPast, with_intake, with_progress}
+use Rattle.sections.specs.ListLaws.{get_set}
+use Rattle.sections.specs.Post.{PostPast, SealingPast, StationPast, with_intake, with_progress}
 use Rattle.sections.specs.Post.{with_sealing, with_station}
-use Rattle.sections.specs.Post.Progress.{Counted, Due as DueIs, Waits}
-use Rattle.sections.specs.Sections.{Call, Does, OfTape, Runs, Section, begun_at, seen}
+use Rattle.sections.specs.Post.Progress.{Counted, Due as DueIs}
+use Rattle.sections.specs.Sections.{Call, Does, OfTape, Runs, Section, begun_at}
+use Rattle.sections.specs.Sections.Call.{Puts}
 use Rattle.sections.specs.Sections.Does.{Is_called_at_intake, Is_shown}
 use Rattle.sections.specs.Sections.Runs.{Next, Start}
+use Rattle.sections.specs.Tapes.{TapePast}
 use Rattle.sections.specs.Sections.Section.{Begins, Calls_intake, Counts, Dues, Seals, Shows}
 use Rattle.section_steps.proofs.OfFronts.{fail, finish, keep, learn, move, send, shed, take}
-use Rattle.section_steps.proofs.OfReceipts.{add, begin, flush_step, rotate_step, seal, see_due, settled}
+use Rattle.section_steps.proofs.OfReceipts.{add, begin, rewrite_not_due, rewrite_step, seal, see_due, settled}
 use Rattle.section_steps.proofs.OfSides.{flush, pull, read, rotate}
 use Rattle.section_steps.proofs.Posts.{all_true, run_on}
 use Rattle.section_steps.specs.At.{DoesThere, SideDoesThere}
 use Rattle.section_steps.specs.Ends.{AreOnTape, HasFewNotes}
 use Rattle.section_steps.specs.Machine.{AreFewAt, Comes, ComesByRuns, FrontCall, Machine, MachineStands}
-use Rattle.section_steps.specs.Machine.{Making, MakingStands, Peer, PeerStands, SideCall, Step}
+use Rattle.section_steps.specs.Machine.{Peer, PeerStands, SideCall, Step}
 use Rattle.section_steps.specs.Machine.Comes.{Next as NextStep, Start as StartThere}
 use Rattle.section_steps.specs.Machine.FrontCall.{Fails, Finishes, Gives_back, Keeps, Learns, Puts_off, Sends, Sheds}
 use Rattle.section_steps.specs.Machine.FrontCall.{Takes}
-use Rattle.section_steps.specs.Machine.IntakeCall.{Flushes_intake, Rotates_intake}
 use Rattle.section_steps.specs.Machine.SideCall.{Flushes, Pulls, Reads, Rotates}
-use Rattle.section_steps.specs.Machine.Step.{Adds, At_front, At_intake, At_side, Begins as BeginsOne, Looks}
-use Rattle.section_steps.specs.Machine.Step.{Notes_number}
+use Rattle.section_steps.specs.Machine.Step.{Adds, At_front, At_side, Begins as BeginsOne, Looks, Rewrites}
+use Rattle.section_steps.specs.Machine.Step.{Seals_number}
 use Rattle.section_steps.specs.Machine.Step.{Shows as ShowsNext}
-use Rattle.section_steps.specs.Receipts.{IsCountedIf, SaysBegin, SaysSeen, SealingSeen, SealingStands}
+use Rattle.section_steps.specs.Receipts.{SaysBegin, SealingSeen, SealingStands, SealsOrNot, SealsThere}
 use Rattle.section_steps.specs.Steps.{DoAll}
-use Rattle.section_steps.specs.TapeSteps.{TapeStep, call_of}
+use Rattle.section_steps.specs.TapeSteps.{TapeStands, TapeStep, call_of}
+
+below_or_not : (m n : ℕ) → (m < n) ⊎ (n ≤ m)
+below_or_not m n = grind arith
+
+both_or_not : (a b c d : ℕ) → (a < b) × (c < d) ⊎ ((a < b) × (c < d) → ⊥)
+both_or_not a b c d = elim (below_or_not a b) [
+  | inl first ↦ elim (below_or_not c d) [
+    | inl second ↦ inl (first, second)
+    | inr not_second ↦ inr (λ both. let second = both.1 in omega (arith, second, not_second))
+  ]
+  | inr not_first ↦ inr (λ both. let first = both.0 in omega (arith, first, not_first))
+]
 
 -- ---- lists related element by element
 
@@ -84,57 +96,26 @@ module _ {A B : Type 0} (R : A → B → Type 0) where
   zip_as Q each (a ∷ xs) [] all = absurd all
   zip_as Q each (a ∷ xs) (b ∷ ys) all = (each a b all.0, zip_as Q each xs ys all.1)
 
-get_put_within : {A : Type 0} (xs : List A) (k : ℕ) (y : A) → k < length xs → slice_get (set xs k y) k ≡ Some y
-get_put_within [] k y below = absurd (omega (arith, below))
-get_put_within (x ∷ xs) zero y below = refl
-get_put_within (x ∷ xs) (suc k) y below = get_put_within xs k y (omega (arith, below))
-
 -- ---- receipts
 
--- a place that is not done may be looked at
-looked : (flags : List Bool) (progress : List Progress) (rank count : ℕ) → AllZip IsCountedIf flags progress
-    → slice_get flags rank ≡ Some false → AllZip IsCountedIf flags (set progress rank (DueIs count))
-looked flags progress rank count all here =
-    zip_set_second IsCountedIf flags progress rank (DueIs count) all (λ flag at done.
-    absurd (true≢false (sym done ∙ get_once flags rank false flag here at)))
-
--- what is due is what was found
-due_there : (stations : List StationPast) (past : SealingPast) (rank due : ℕ) (station : StationPast)
-    (place other : ℕ) → length past.progress ≡ length stations → slice_get stations rank ≡ Some station
-    → ◌≡◌ {A = Option (ℕ × ℕ)} (Some (rank, due)) (Some (place, other)) → (at : StationPast)
-    → slice_get stations place ≡ Some at
-    → slice_get (set past.progress rank (DueIs (station.tape.history.opened + due))) place
-    ≡ Some (DueIs (at.tape.history.opened + other))
-due_there stations past rank due station place other long here same at found_there =
-    let is : ◌≡◌ {A = ℕ × ℕ} (rank, due) (place, other) = cc in
-    let place_is : place ≡ rank = ap (λ (p : ℕ × ℕ). p.0) (sym is) in
-    let found : slice_get stations rank ≡ Some at =
-    subst (λ (k : ℕ). slice_get stations k ≡ Some at) place_is found_there in
-    let station_is : at ≡ station = get_once stations rank station at here found in
-    let put = get_put_within past.progress rank (DueIs (station.tape.history.opened + due))
-    (omega (arith, long, get_within stations rank station here)) in
-    subst (λ (k : ℕ). slice_get (set past.progress rank (DueIs (station.tape.history.opened + due))) k
-    ≡ Some (DueIs (at.tape.history.opened + other))) (sym place_is)
-    (put ∙ (λ i. Some (DueIs ((sym station_is i).tape.history.opened + (is i).1))))
-
 -- what is due stays so, as long as the station counts from the same opening
-makings_stay : (stations : List StationPast) (rank : ℕ) (was now : StationPast) → slice_get stations rank ≡ Some was
-    → now.tape.history.opened ≡ was.tape.history.opened → (makings : List Making) (sealings : List SealingPast)
-    → AllZip (MakingStands stations) makings sealings
-    → AllZip (MakingStands (set stations rank now)) makings sealings
-makings_stay stations rank was now here opened makings sealings all =
-    zip_as (MakingStands stations) (MakingStands (set stations rank now)) (λ making past one. record {
-      sealing = one.sealing;
+sealings_stay : (stations : List StationPast) (rank : ℕ) (was now : StationPast) → slice_get stations rank ≡ Some was
+    → now.tape.history.opened ≡ was.tape.history.opened → (seen : List SealingSeen) (sealings : List SealingPast)
+    → AllZip (SealingStands stations) seen sealings → AllZip (SealingStands (set stations rank now)) seen sealings
+sealings_stay stations rank was now here opened seen sealings all =
+    zip_as (SealingStands stations) (SealingStands (set stations rank now)) (λ sealing past one. record {
+      number = one.number;
       long = one.long ∙ sym (length-set stations rank now);
-      due = λ place due is station at. elim (get_set stations rank place now station at) [
+      done = one.done;
+      due = λ place due station is at. elim (get_set stations rank place now station at) [
         | inl same ↦
-            let before = one.due place due is was
+            let before = one.due place due was is
             (subst (λ (k : ℕ). slice_get stations k ≡ Some was) (sym same.0) here) in
             subst (λ (n : ℕ). slice_get past.progress place ≡ Some (DueIs (n + due)))
             (sym opened ∙ ap (λ (s : StationPast). s.tape.history.opened) (sym same.1)) before
-        | inr other ↦ one.due place due is station other
+        | inr other ↦ one.due place due station is other
       ];
-    }) makings sealings all
+    }) seen sealings all
 
 -- ---- runs
 
@@ -203,8 +184,8 @@ module _ {D : Type 0} {g : Ghosts D} where
         rank = rank;
         last = post.last;
       }) sections new left
-  side_call post rank peer station new left stands (Pulls rest says worked popped) =
-      (_, pull _ peer.side new peer.items stands.side rest says worked popped)
+  side_call post rank peer station new left stands (Pulls rest says popped) =
+      (_, pull _ peer.side new peer.items stands.side rest says popped)
   side_call post rank peer station new left stands (Flushes result says) =
       (_, (flush _ peer.side new peer.items stands.side result says).puts.does)
   side_call post rank peer station new left stands (Rotates result says) =
@@ -230,12 +211,24 @@ module _ {D : Type 0} {g : Ghosts D} where
           intake = stands.intake;
           runs = stands.runs;
           last = stands.last;
-          makings = makings_stay post.stations rank was now here stays.opened machine.makings post.sealings
-              stands.makings;
+          sealings = sealings_stay post.stations rank was now here stays.opened machine.sealings post.sealings
+              stands.sealings;
         };
       }
 
   -- ---- each step
+
+  -- the intake's tape stands for this, and nothing else has changed
+  with_tape_there : (machine : Machine D g) (post : PostPast) (new : Tape D g) (tape : TapePast)
+      → MachineStands machine post → TapeStands tape new
+      → MachineStands (record machine { intake = new }) (with_intake post tape)
+  with_tape_there machine post new tape stands there = record {
+    peers = stands.peers;
+    intake = there;
+    runs = stands.runs;
+    last = stands.last;
+    sealings = stands.sealings;
+  }
 
   at_intake : (machine : Machine D g) (post : PostPast) (new : Tape D g) (call : Call) → MachineStands machine post
       → TapeStep post.intake call new → ComesByRuns post (record machine { intake = new })
@@ -245,14 +238,20 @@ module _ {D : Type 0} {g : Ghosts D} where
     runs = one_section post (with_intake post step.later) (Calls_intake call)
         (Is_called_at_intake call step.later
         (subst (λ (b : Bool). OfTape post.intake b call step.later) (sym stands.runs) step.does));
-    stands = record {
-      peers = stands.peers;
-      intake = step.stands;
-      runs = stands.runs;
-      last = stands.last;
-      makings = stands.makings;
-    };
+    stands = with_tape_there machine post new step.later stands step.stands;
   }
+
+  no_section : (machine : Machine D g) (post : PostPast) (new : Tape D g) → MachineStands machine post
+      → TapeStands post.intake new → ComesByRuns post (record machine { intake = new })
+  no_section machine post new stands there = record {
+    sections = [];
+    later = post;
+    runs = Start;
+    stands = with_tape_there machine post new post.intake stands there;
+  }
+
+  is_due : (tape : Tape D g) → IsDue tape ⊎ (IsDue tape → ⊥)
+  is_due tape = both_or_not _ _ _ _
 
   few_there : (peer : Peer D g) (station : StationPast) → PeerStands peer station → AreFewAt peer → HasFewNotes station
   few_there peer station stands few =
@@ -268,11 +267,11 @@ module _ {D : Type 0} {g : Ghosts D} where
         length-append peer.before (view (sending peer.sender)).sent,
       )
 
-  with_receipt : (machine : Machine D g) (post : PostPast) (id : ℕ) (section : Section) (making : Making)
+  at_receipt : (machine : Machine D g) (post : PostPast) (id : ℕ) (section : Section) (sealing : SealingSeen)
       (past : SealingPast) → MachineStands machine post → Does post section (with_sealing post id past)
-      → MakingStands post.stations making past
-      → ComesByRuns post (record machine { makings = set machine.makings id making })
-  with_receipt machine post id section making past stands does one = record {
+      → SealingStands post.stations sealing past
+      → ComesByRuns post (record machine { sealings = set machine.sealings id sealing })
+  at_receipt machine post id section sealing past stands does one = record {
     sections = section ∷ [];
     later = with_sealing post id past;
     runs = one_section post (with_sealing post id past) section does;
@@ -281,46 +280,29 @@ module _ {D : Type 0} {g : Ghosts D} where
       intake = stands.intake;
       runs = stands.runs;
       last = stands.last;
-      makings = zip_set_both (MakingStands post.stations) machine.makings post.sealings id making past stands.makings
-          one;
+      sealings = zip_set_both (SealingStands post.stations) machine.sealings post.sealings id sealing past
+          stands.sealings one;
     };
   }
 
-  noted_number : (machine : Machine D g) (post : PostPast) (id : ℕ) (past : SealingPast) (sealing : SealingSeen)
-      (new : Tape D g) (result : Result (Unit {0}) (Note × TapeFault)) → MachineStands machine post
-      → slice_get post.sealings id ≡ Some past
-      → SaysSeen sealing.number machine.intake new result
-      → length past.progress ≡ length post.stations → SealingStands sealing past
-      → IsDoneBelow (length post.stations) sealing.done
+  sealed_there : (machine : Machine D g) (post : PostPast) (id : ℕ) (call : Call) (new : Tape D g)
+      → MachineStands machine post → SealsThere post id call new → ComesByRuns post (record machine { intake = new })
+  sealed_there machine post id call new stands does = record {
+    sections = Seals id ∷ Calls_intake call ∷ [];
+    later = with_intake post does.later;
+    runs = Next (Seals id ∷ []) (Calls_intake call) (with_intake post does.sealed) (with_intake post does.later)
+        (one_section post (with_intake post does.sealed) (Seals id) does.seals) does.calls;
+    stands = with_tape_there machine post new does.later stands does.stands;
+  }
+
+  sealed_by : (machine : Machine D g) (post : PostPast) (id : ℕ) (new : Tape D g)
+      (result : Result Receipt TapeFault) → MachineStands machine post → SealsOrNot post id new result
       → ComesByRuns post (record machine { intake = new })
-  noted_number machine post id past sealing new (Ok answer) stands here says long sealed done =
-      let does = (seal post id past sealing machine.intake new (Ok answer) here long sealed done stands.intake says).0
-      in record {
-        sections = Seals id ∷ [];
-        later = with_intake post (seen past.number post.intake);
-        runs = one_section post (with_intake post (seen past.number post.intake)) (Seals id) does.0;
-        stands = record {
-          peers = stands.peers;
-          intake = does.1;
-          runs = stands.runs;
-          last = stands.last;
-          makings = stands.makings;
-        };
-      }
-  noted_number machine post id past sealing new (Err fault) stands here says long sealed done =
-      let still = (seal post id past sealing machine.intake new (Err fault) here long sealed done stands.intake says).1
-      in record {
-        sections = [];
-        later = post;
-        runs = Start;
-        stands = record {
-          peers = stands.peers;
-          intake = still;
-          runs = stands.runs;
-          last = stands.last;
-          makings = stands.makings;
-        };
-      }
+  sealed_by machine post id new (Ok answer) stands does = sealed_there machine post id Puts new stands does.0
+  sealed_by machine post id new (Err fault) stands does = elim does.1 [
+    | inl still ↦ no_section machine post new stands still
+    | inr sealed ↦ sealed_there machine post id _ new stands sealed
+  ]
 
   step_runs : (machine later : Machine D g) (post : PostPast) → MachineStands machine post → Step machine later
       → ComesByRuns post later
@@ -339,12 +321,13 @@ module _ {D : Type 0} {g : Ghosts D} where
       does.1.does
       (record { sender = does.1.front _ at.2.sender; side = does.1.side }) at.2.sender.runs
       at.2.side.tape.stands.kept_within
-  step_runs machine later post stands (At_intake new (Flushes_intake result says)) =
-      at_intake machine post new (call_of result) stands
-      (flush_step post.intake machine.intake new result stands.intake says)
-  step_runs machine later post stands (At_intake new (Rotates_intake result says)) =
-      at_intake machine post new (call_of result) stands
-      (rotate_step post.intake machine.intake new result stands.intake says)
+  step_runs machine later post stands (Rewrites new result says) = elim (is_due machine.intake) [
+    | inl due ↦
+        at_intake machine post new (call_of result) stands
+        (rewrite_step post.intake machine.intake new result stands.intake due says)
+    | inr not_due ↦
+        no_section machine post new stands (rewrite_not_due post machine.intake new result stands.intake not_due says)
+  ]
   step_runs machine later post stands ShowsNext =
       let next : PostPast = record post { last = post.last + 1 } in
       record {
@@ -356,7 +339,7 @@ module _ {D : Type 0} {g : Ghosts D} where
           intake = stands.intake;
           runs = stands.runs;
           last = ap (λ (n : ℕ). n + 1) stands.last;
-          makings = stands.makings;
+          sealings = stands.sealings;
         };
       }
   step_runs machine later post stands (BeginsOne new says) =
@@ -374,48 +357,32 @@ module _ {D : Type 0} {g : Ghosts D} where
           intake = stands.intake;
           runs = stands.runs;
           last = stands.last;
-          makings = zip_push (MakingStands post.stations) machine.makings post.sealings _ past stands.makings (record {
-            sealing = begins.1;
-            long = length-replicate (length post.stations) Waits;
-            due = λ place due none. absurd cc;
-          });
+          sealings = zip_push (SealingStands post.stations) machine.sealings post.sealings new past stands.sealings
+              begins.1;
         };
       }
-  step_runs machine later post stands (Looks id rank due making peer here at undone few says) =
+  step_runs machine later post stands (Looks id rank due sealing new peer here at few says) =
       let there = zip_there PeerStands machine.peers post.stations rank peer stands.peers at in
-      let past = zip_there (MakingStands post.stations) machine.makings post.sealings id making stands.makings here in
-      let count = there.0.tape.history.opened + due in
-      let found = with_progress past.0 rank (DueIs count) in
-      with_receipt machine post id (Dues id rank) (record making { due = Some (rank, due) }) found stands
-      (see_due post id rank past.0 there.0 peer.before peer.sender due past.1 there.1 there.2.sender
-      (few_there peer there.0 there.2 few) says)
-      (record {
-        sealing = record {
-          number = past.2.sealing.number;
-          done = looked making.sealing.done past.0.progress rank count past.2.sealing.done undone;
-        };
-        long = length-set past.0.progress rank (DueIs count) ∙ past.2.long;
-        due = λ place other same station at. due_there post.stations past.0 rank due there.0 place other past.2.long
-            there.1 same station at;
-      })
-  step_runs machine later post stands (Adds id rank due count making peer new here is at has says) =
+      let past = zip_there (SealingStands post.stations) machine.sealings post.sealings id sealing stands.sealings here
+      in
+      let does = see_due post id rank past.0 there.0 peer.before peer.sender due sealing new past.1 there.1
+      there.2.sender (few_there peer there.0 there.2 few) past.2 says in
+      at_receipt machine post id (Dues id rank) new
+      (with_progress past.0 rank (DueIs (there.0.tape.history.opened + due))) stands does.0 does.1
+  step_runs machine later post stands (Adds id rank count sealing new peer here at has says) =
       let there = zip_there PeerStands machine.peers post.stations rank peer stands.peers at in
-      let past = zip_there (MakingStands post.stations) machine.makings post.sealings id making stands.makings here in
-      let counted = with_progress past.0 rank Counted in
-      let does = add post id rank past.0 there.0 due count making.sealing new past.1 there.1
-      (past.2.due rank due is there.0 there.1)
-      (settled peer.before peer.sender there.0 count there.2.sender has) past.2.sealing says in
-      with_receipt machine post id (Counts id rank) (record { sealing = new; due = None }) counted stands does.0
-      (record {
-        sealing = does.1;
-        long = length-set past.0.progress rank Counted ∙ past.2.long;
-        due = λ place due none. absurd cc;
-      })
-  step_runs machine later post stands (Notes_number id making new result here done says) =
-      let past = zip_there (MakingStands post.stations) machine.makings post.sealings id making stands.makings here in
+      let past = zip_there (SealingStands post.stations) machine.sealings post.sealings id sealing stands.sealings here
+      in
+      let does = add post id rank past.0 there.0 count sealing new past.1 there.1
+      (settled peer.before peer.sender there.0 count there.2.sender has) past.2 says in
+      at_receipt machine post id (Counts id rank) new (with_progress past.0 rank Counted) stands does.0 does.1
+  step_runs machine later post stands (Seals_number id sealing new result here done says) =
+      let past = zip_there (SealingStands post.stations) machine.sealings post.sealings id sealing stands.sealings here
+      in
       let long = zip_long PeerStands machine.peers post.stations stands.peers in
-      noted_number machine post id past.0 making.sealing new result stands past.1 says past.2.long past.2.sealing
-      (subst (λ (n : ℕ). IsDoneBelow n making.sealing.done) long done)
+      sealed_by machine post id new result stands
+      (seal post id past.0 sealing machine.intake new result past.1 stands.runs past.2
+      (subst (λ (n : ℕ). IsDoneBelow n sealing.places) long done) stands.intake says)
 
   -- ---- any steps
 

@@ -19,7 +19,7 @@ use Rattle.sections.specs.Tapes.{TapePast}
 use Rattle.section_steps.proofs.SideCalls.{flush_puts, flush_refuses, rotation_puts, rotation_refuses, side_pulls}
 use Rattle.section_steps.proofs.SideCalls.{side_puts, side_reads}
 use Rattle.section_steps.specs.At.{EndsThere, FlushesThere, PutsThere, SideDoesThere, Spot}
-use Rattle.section_steps.specs.SideClauses.{HasWorked, IsPopped, SaysFlush, SaysPull, SaysRead, SaysRotate}
+use Rattle.section_steps.specs.SideClauses.{IsPopped, SaysFlush, SaysPull, SaysRead, SaysRotate}
 use Rattle.section_steps.specs.TapeSteps.{PutsAll, RefusesPut, TapeStands, call_of}
 
 module _ {D : Type 0} {g : Ghosts D} where
@@ -33,11 +33,10 @@ module _ {D : Type 0} {g : Ghosts D} where
         → SideDoesThere at (Calls at.rank Reads ∷ []) new items
     read says = side_reads at.before at.last at.rank at.was old new items stands says.keeps says.reads
 
-    pub pull : (left : List Note) (says : SaysPull old new) → HasWorked old says.puts.more
-        → IsPopped old items new left
+    pub pull : (left : List Note) (says : SaysPull old new) → IsPopped old items new left
         → SideDoesThere at (map (λ (note : Note). Pulls at.rank) says.puts.more) new left
-    pull left says worked popped =
-        side_pulls at.before at.last at.rank at.was old new items left stands says.puts says.keeps popped worked
+    pull left says popped =
+        side_pulls at.before at.last at.rank at.was old new items left stands says.puts says.keeps popped
 
     -- the tape is broken now, if a disk failed or it was before
     tells_broken : {T : Type 0} (result : Result T TapeFault) → RefusesPut (tape_of old) (tape_of new) result

@@ -15,7 +15,7 @@ use Rattle.recovery.specs.Leaving.{broken_of}
 use Rattle.recovery.specs.Notes.{History}
 use Rattle.recovery.specs.Rotates.{RefusesRotation, Rotates}
 use Rattle.recovery.specs.Tape.{IsRead}
-use Rattle.recovery.specs.Words.{IsBroken, faults_of}
+use Rattle.recovery.specs.Words.{faults_of}
 use Rattle.recovery.specs.declared.fault.TapeFault.{TapeFault}
 use Rattle.recovery.specs.declared.fault.TapeFault.TheVariants.{Disk}
 use Rattle.recovery.specs.declared.flushed.Flushed.{Flushed}
@@ -135,9 +135,8 @@ module _ {D : Type 0} {g : Ghosts D} where
 
     pub side_pulls : (puts : PutsMore old new) → IsNotCalled (tape_of old) (tape_of new)
         → (view (taking old)).got ++ items ≡ (view (taking new)).got ++ left
-        → (puts.more ≢ [] → IsBroken (tape_of old) → ⊥)
         → SideDoes before last rank was (map (λ (note : Note). Pulls rank) puts.more) (side_seen new) left
-    side_pulls puts keeps order works =
+    side_pulls puts keeps order =
         does_pull before last rank was (side_seen old) (side_seen new) items left stands puts.more
-        works puts.put (in_order puts order) (puts.stands was.tape.history stands.tape.stands) keeps.disks
+        puts.worked puts.put (in_order puts order) (puts.stands was.tape.history stands.tape.stands) keeps.disks
         (same_bool (broken_of (tape_of old)) (broken_of (tape_of new)) keeps.works.0 keeps.works.1)

@@ -1,6 +1,6 @@
 -- What the calls of a tape come to.
 use Rattle.std.proofs.Common.{◌≡◌, ◌≤◌, ℕ, Bool, true, false}
-use Rattle.std.proofs.Common.{refl, sym, ◌∙◌, subst}
+use Rattle.std.proofs.Common.{refl, sym, ◌∙◌, subst, arith}
 use Rattle.std.specs.Prelude.{Result, Ok, Err}
 use Rattle.disk_model.specs.declared.Disk.{Ghosts}
 use Rattle.recovery.specs.DiskLaws.{log-read}
@@ -66,16 +66,18 @@ module _ {D : Type 0} {g : Ghosts D} where
 
   -- ---- a call that is to put all on the disks
 
-  module _ (was : TapePast) (old new : Tape D g) (stands : TapeStands was old) where
+  -- what has happened to the tape's disks before, what faults they have reported, and whether it is broken
+  module _ (was : TapePast) (old new : Tape D g) (log : log_of old ≡ was.log) (faults : faults_of old ≡ was.faults)
+      (broken : broken_of old ≡ was.broken) where
     worked : (IsBroken old → ⊥) → was.broken ≡ false
-    worked works = sym stands.broken ∙ not_true (broken_of old) works
+    worked works = sym broken ∙ not_true (broken_of old) works
 
     moments_of : TapeLeaves (Survives was.history) (log_of old) (log_of new)
         → LedgersLeave (IsPrefix was.history) was.log (log_of new)
-    moments_of run = subst (λ (l : Log). LedgersLeave (IsPrefix was.history) l (log_of new)) stands.log
+    moments_of run = subst (λ (l : Log). LedgersLeave (IsPrefix was.history) l (log_of new)) log
         (leaves_prefix was.history (log_of old) (log_of new) run)
 
-    put_tape : (IsBroken old → ⊥) → (IsBroken new → ⊥) → faults_of new ≡ faults_of old
+    pub put_tape : (IsBroken old → ⊥) → (IsBroken new → ⊥) → faults_of new ≡ faults_of old
         → StandsFor new (flushed was.history)
         → TapeLeaves (Survives was.history) (log_of old) (log_of new) → TapeStep was Puts new
     put_tape works still quiet ok moments =
@@ -96,12 +98,12 @@ module _ {D : Type 0} {g : Ghosts D} where
           stands = record {
             stands = ok;
             log = refl;
-            faults = quiet ∙ stands.faults;
+            faults = quiet ∙ faults;
             broken = not_true (broken_of new) still;
           };
         }
 
-    cut_tape : (IsBroken old → ⊥) → IsBroken new → OneHasRisen (faults_of old) (faults_of new)
+    pub cut_tape : (IsBroken old → ⊥) → IsBroken new → OneHasRisen (faults_of old) (faults_of new)
         → StandsFor new was.history
         → TapeLeaves (Survives was.history) (log_of old) (log_of new) → TapeStep was Breaks new
     cut_tape works breaks cause stays moments =
@@ -111,21 +113,40 @@ module _ {D : Type 0} {g : Ghosts D} where
           later = later;
           does = Is_cut later (record {
             worked = worked works;
-            cause = subst (λ (f : ℕ × ℕ). OneHasRisen f (faults_of new)) stands.faults cause;
+            cause = subst (λ (f : ℕ × ℕ). OneHasRisen f (faults_of new)) faults cause;
             moments = moments_of moments;
             all = refl;
           });
           stands = record { stands = stays; log = refl; faults = refl; broken = breaks };
         }
 
+    -- no disk was called, and the tape stands for other notes
+    pub still_tape : StandsFor new was.history → log_of new ≡ log_of old → faults_of new ≡ faults_of old
+        → broken_of new ≡ broken_of old → TapeStep was Reads new
+    still_tape stands same_log same_faults same_broken =
+        let later : TapePast = record was { faults = was.faults } in
+        record {
+          later = later;
+          does = Is_read later (record { first = omega arith; second = omega arith; all = refl });
+          stands = record {
+            stands = stands;
+            log = same_log ∙ log;
+            faults = same_faults ∙ faults;
+            broken = same_broken ∙ broken;
+          };
+        }
+
+  module _ (was : TapePast) (old new : Tape D g) (stands : TapeStands was old) where
     -- the call by its answer
     pub puts_tape : {T : Type 0} (result : Result T TapeFault) → PutsAll was.history old new result
         → RefusesPut old new result → TapeStep was (call_of result) new
     puts_tape (Ok answer) puts refuses =
-        put_tape (λ broken. let same : Ok answer ≡ Err Broken = refuses.broken.1 broken in absurd cc) refuses.works
+        put_tape was old new stands.log stands.faults stands.broken
+        (λ broken. let same : Ok answer ≡ Err Broken = refuses.broken.1 broken in absurd cc) refuses.works
         refuses.quiet puts.ok puts.moments
     puts_tape (Err Disk) puts refuses =
-        cut_tape (λ broken. let same : Err Disk ≡ Err Broken = refuses.broken.1 broken in absurd cc)
+        cut_tape was old new stands.log stands.faults stands.broken
+        (λ broken. let same : Err Disk ≡ Err Broken = refuses.broken.1 broken in absurd cc)
         (refuses.breaks refl) (puts.cause refl) puts.stays puts.moments
     puts_tape (Err Broken) puts refuses = reads_tape was old new stands (refuses.unchanged (λ same. absurd cc))
     puts_tape (Err PendingFull) puts refuses = reads_tape was old new stands (refuses.unchanged (λ same. absurd cc))

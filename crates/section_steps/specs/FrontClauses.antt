@@ -1,5 +1,5 @@
--- What the calls under a front's lock say of the sender there, all their clauses together. `pass` is a clause of the
--- sender's own call; the others are those of the call of flusher that is named here.
+-- What the calls under a front's lock say of the sender there, all their clauses together. `pass` is that of
+-- `SendsNothing` (`sends`, or `keeps`); the others are those of the call of flusher that is named here.
 use Rattle.std.specs.Prelude.{◌≡◌, ◌↔◌, ◌-◌, ℕ, Bool, true, false, List, Result, IfOk, IsTrue, OnErr, OnOk}
 use Rattle.conn_core.specs.declared.outcome.Outcome.{Outcome}
 use Rattle.flusher.specs.Counted.{FinishesAndCounts, ShedsAndCounts}

@@ -1,8 +1,8 @@
 -- All locks and queues of a post, and what the threads do with them: each step is what one call's contract says of what
 -- one lock keeps. Steps come in any order. That there is one order, in which each holder of a lock finds what the last
 -- one left, is what a run assumes; and that a push, a pop, a store and a load are steps of that order.
-use Rattle.std.specs.Prelude.{◌≡◌, ◌+◌, ◌<◌, ◌≤◌, ◌^◌, ℕ, Bool, true, false, List, [], ◌∷◌, ◌++◌, length}
-use Rattle.std.specs.Prelude.{Option, None, Some, Result, slice_get, slice_set}
+use Rattle.std.specs.Prelude.{◌≡◌, ◌+◌, ◌<◌, ◌≤◌, ◌^◌, ℕ, Bool, true, List, [], ◌∷◌, ◌++◌, length}
+use Rattle.std.specs.Prelude.{Some, Result, slice_get, slice_set}
 use Rattle.std.specs.List.{AllZip}
 use Rattle.conn_core.specs.declared.outcome.Outcome.{Outcome}
 use Rattle.crossbeam_queue.specs.Passes.{view}
@@ -10,6 +10,7 @@ use Rattle.disk_model.specs.declared.Disk.{Ghosts}
 use Rattle.flusher.specs.Sealed.{HasSettled, IsDoneBelow}
 use Rattle.flusher.specs.Shares.{FeederCount}
 use Rattle.flusher.specs.declared.fault.PostFault.{PostFault}
+use Rattle.flusher.specs.declared.sealing.Receipt.{Receipt}
 use Rattle.ledger_core.specs.State.{Owing}
 use Rattle.ledger_core.specs.declared.note.Note.{Note}
 use Rattle.note_queue.specs.Words.{front_of, sending, tape_of}
@@ -23,15 +24,14 @@ use Rattle.recovery.specs.Words.{IsBroken, flushed_of}
 use Rattle.recovery.specs.declared.fault.TapeFault.{TapeFault}
 use Rattle.recovery.specs.declared.flushed.Flushed.{Flushed}
 use Rattle.recovery.specs.declared.tape.Tape.{Tape}
-use Rattle.sections.specs.Post.{PostPast, SealingPast, StationPast}
-use Rattle.sections.specs.Post.Progress.{Due as DueIs}
+use Rattle.sections.specs.Post.{PostPast, StationPast}
 use Rattle.sections.specs.Sections.{Runs, Section}
 use Rattle.section_steps.specs.Ends.{EndStands, SenderStands}
 use Rattle.section_steps.specs.FrontClauses.{SaysFail, SaysFinish, SaysKeep, SaysLearn, SaysMove, SaysSend, SaysShed}
 use Rattle.section_steps.specs.FrontClauses.{SaysTake}
-use Rattle.section_steps.specs.Receipts.{SaysAdd, SaysBegin, SaysDue, SaysFlushIntake, SaysRotateIntake, SaysSeen}
+use Rattle.section_steps.specs.Receipts.{SaysAdd, SaysBegin, SaysDue, SaysRewrite, SaysSeal}
 use Rattle.section_steps.specs.Receipts.{SealingSeen, SealingStands}
-use Rattle.section_steps.specs.SideClauses.{HasWorked, IsPopped, SaysFlush, SaysPull, SaysRead, SaysRotate}
+use Rattle.section_steps.specs.SideClauses.{IsPopped, SaysFlush, SaysPull, SaysRead, SaysRotate}
 use Rattle.section_steps.specs.TapeSteps.{TapeStands}
 
 -- ---- what there is
@@ -44,28 +44,12 @@ pub record Peer (D : Type 0) (g : Ghosts D) : Type 0 where
   pub side : Side D g
   pub items : List Note
 
--- a receipt that is being made: its sealing; and the place that it looked at, with what is due there, until that is
--- added
-pub record Making : Type 0 where
-  pub sealing : SealingSeen
-  pub due : Option (ℕ × ℕ)
-
--- all peers, the intake's tape, the number that is shown, and all receipts that are being made
+-- all peers, the intake's tape, the number that is shown, and the sealings of all receipts that are being made
 pub record Machine (D : Type 0) (g : Ghosts D) : Type 0 where
   pub peers : List (Peer D g)
   pub intake : Tape D g
   pub last : ℕ
-  pub makings : List Making
-
--- ---- when a receipt stands
-
--- the sealing stands for a receipt; and what is due is what the receipt found there
-pub record MakingStands (stations : List StationPast) (making : Making) (past : SealingPast) : Type 0 where
-  pub sealing : SealingStands making.sealing past
-  pub long : length past.progress ≡ length stations
-  pub due : (rank due : ℕ) → making.due ≡ Some (rank, due) → (station : StationPast)
-      → slice_get stations rank ≡ Some station
-      → slice_get past.progress rank ≡ Some (DueIs (station.tape.history.opened + due))
+  pub sealings : List SealingSeen
 
 -- ---- what a front's lock sees done
 
@@ -98,17 +82,11 @@ module _ {D : Type 0} {g : Ghosts D} where
 
   -- a call at this peer leaves this side, and the queue holds these notes then
   pub data SideCall (peer : Peer D g) (new : Side D g) : List Note → Type 0 where
-    Pulls : (left : List Note) (says : SaysPull peer.side new) → HasWorked peer.side says.puts.more
-        → IsPopped peer.side peer.items new left → SideCall peer new left
+    Pulls : (left : List Note) (says : SaysPull peer.side new) → IsPopped peer.side peer.items new left
+        → SideCall peer new left
     Flushes : (result : Result Flushed TapeFault) → SaysFlush peer.side new result → SideCall peer new peer.items
     Rotates : (result : Result ℕ TapeFault) → SaysRotate peer.side new result → SideCall peer new peer.items
     Reads : SaysRead peer.side new → SideCall peer new peer.items
-
-  -- ---- what the intake's lock sees done
-
-  pub data IntakeCall (old new : Tape D g) : Type 0 where
-    Flushes_intake : (result : Result Flushed TapeFault) → SaysFlushIntake old new result → IntakeCall old new
-    Rotates_intake : (result : Result ℕ TapeFault) → SaysRotateIntake old new result → IntakeCall old new
 
   -- ---- steps
 
@@ -120,8 +98,8 @@ module _ {D : Type 0} {g : Ghosts D} where
   abbrev pub with_peer : Machine D g → ℕ → Peer D g → Machine D g
   with_peer machine rank peer = record machine { peers = slice_set machine.peers rank peer }
 
-  abbrev pub with_making : Machine D g → ℕ → Making → Machine D g
-  with_making machine id making = record machine { makings = slice_set machine.makings id making }
+  abbrev pub with_receipt : Machine D g → ℕ → SealingSeen → Machine D g
+  with_receipt machine id sealing = record machine { sealings = slice_set machine.sealings id sealing }
 
   pub data Step (old : Machine D g) : Machine D g → Type 0 where
     At_front : (rank : ℕ) (peer : Peer D g) (new : Sender) (pushed : List Note)
@@ -130,25 +108,25 @@ module _ {D : Type 0} {g : Ghosts D} where
     At_side : (rank : ℕ) (peer : Peer D g) (new : Side D g) (left : List Note)
         → slice_get old.peers rank ≡ Some peer → SideCall peer new left
         → Step old (with_peer old rank (record peer { side = new; items = left }))
-    At_intake : (new : Tape D g) → IntakeCall old.intake new → Step old (record old { intake = new })
+    -- the intake's tape is rewritten, if that is due
+    Rewrites : (new : Tape D g) (result : Result (Unit {0}) TapeFault) → SaysRewrite old.intake new result
+        → Step old (record old { intake = new })
     -- the next line's number is shown
     Shows : Step old (record old { last = old.last + 1 })
     Begins : (new : SealingSeen) → SaysBegin old.last (length old.peers) new
-        → Step old (record old { makings = old.makings ++ record { sealing = new; due = None } ∷ [] })
-    -- a place is looked at that is not done
-    Looks : (id rank due : ℕ) (making : Making) (peer : Peer D g) → slice_get old.makings id ≡ Some making
-        → slice_get old.peers rank ≡ Some peer → slice_get making.sealing.done rank ≡ Some false → AreFewAt peer
-        → SaysDue peer.sender due → Step old (with_making old id (record making { due = Some (rank, due) }))
-    -- it is added once the front has settled what was due
-    Adds : (id rank due count : ℕ) (making : Making) (peer : Peer D g) (new : SealingSeen)
-        → slice_get old.makings id ≡ Some making → making.due ≡ Some (rank, due)
+        → Step old (record old { sealings = old.sealings ++ new ∷ [] })
+    -- a receipt looks at a place
+    Looks : (id rank due : ℕ) (sealing new : SealingSeen) (peer : Peer D g) → slice_get old.sealings id ≡ Some sealing
+        → slice_get old.peers rank ≡ Some peer → AreFewAt peer → SaysDue rank peer.sender due sealing new
+        → Step old (with_receipt old id new)
+    -- it adds the place once the front has settled what was due
+    Adds : (id rank count : ℕ) (sealing new : SealingSeen) (peer : Peer D g) → slice_get old.sealings id ≡ Some sealing
         → slice_get old.peers rank ≡ Some peer → HasSettled count (front_of peer.sender)
-        → SaysAdd rank due count making.sealing new
-        → Step old (with_making old id (record { sealing = new; due = None }))
-    -- the number is noted once each place is done
-    Notes_number : (id : ℕ) (making : Making) (new : Tape D g) (result : Result (Unit {0}) (Note × TapeFault))
-        → slice_get old.makings id ≡ Some making → IsDoneBelow (length old.peers) making.sealing.done
-        → SaysSeen making.sealing.number old.intake new result → Step old (record old { intake = new })
+        → SaysAdd rank count sealing new → Step old (with_receipt old id new)
+    -- the number is noted, and put on the disks, once each place is done
+    Seals_number : (id : ℕ) (sealing : SealingSeen) (new : Tape D g) (result : Result Receipt TapeFault)
+        → slice_get old.sealings id ≡ Some sealing → IsDoneBelow (length old.peers) sealing.places
+        → SaysSeal sealing.number old.intake new result → Step old (record old { intake = new })
 
   -- any steps, in any order in which each finds what it needs
   pub data Comes (begun : Machine D g) : Machine D g → Type 0 where
@@ -166,7 +144,7 @@ module _ {D : Type 0} {g : Ghosts D} where
     pub intake : TapeStands post.intake machine.intake
     pub runs : post.intake_runs ≡ true
     pub last : machine.last ≡ post.last
-    pub makings : AllZip (MakingStands post.stations) machine.makings post.sealings
+    pub sealings : AllZip (SealingStands post.stations) machine.sealings post.sealings
 
   -- these sections lead from the post to one for which the machine stands
   pub record ComesByRuns (post : PostPast) (machine : Machine D g) : Type 0 where

@@ -1,5 +1,5 @@
 -- What the calls under a tape's lock say of the side there, all their clauses together.
-use Rattle.std.specs.Prelude.{◌≡◌, ◌≢◌, ℕ, List, [], ◌++◌, Result, IfOk}
+use Rattle.std.specs.Prelude.{◌≡◌, ℕ, List, ◌++◌, Result, IfOk}
 use Rattle.crossbeam_queue.specs.Passes.{view}
 use Rattle.disk_model.specs.declared.Disk.{Ghosts}
 use Rattle.ledger_core.specs.declared.note.Note.{Note}
@@ -11,7 +11,7 @@ use Rattle.recovery.specs.Flushes.{Flushes, HasFlushed, RefusesFlush}
 use Rattle.recovery.specs.Notes.{History}
 use Rattle.recovery.specs.Rotates.{RefusesRotation, Rotates}
 use Rattle.recovery.specs.Tape.{IsRead, StandsFor}
-use Rattle.recovery.specs.Words.{IsBroken, place_of}
+use Rattle.recovery.specs.Words.{place_of}
 use Rattle.recovery.specs.declared.fault.TapeFault.{TapeFault}
 use Rattle.recovery.specs.declared.fault.TapeFault.TheVariants.{Disk}
 use Rattle.recovery.specs.declared.flushed.Flushed.{Flushed}
@@ -22,10 +22,6 @@ module _ {D : Type 0} {g : Ghosts D} where
     pub takes : TakesMore (taking old) (taking new)
     pub puts : PutsMore old new
     pub keeps : IsNotCalled (tape_of old) (tape_of new)
-
-  -- A tape works that has taken a note. No clause of `pull` says so yet.
-  abbrev pub HasWorked : Side D g → List Note → Type 0
-  HasWorked old more = more ≢ [] → IsBroken (tape_of old) → ⊥
 
   -- What was popped meanwhile were the first notes of the queue, in order: what was sent is what was received, followed
   -- by what the queue holds, at both moments (`Relayed`).

@@ -7,8 +7,8 @@ ghost use Rattle.recovery.specs.declared.flushed.Flushed.{Flushed};
 ghost use Rattle.sections.specs.Sections.Call.{Reads};
 ghost use Rattle.sections.specs.Sections.Section.{Calls, Pulls};
 ghost use Rattle.section_steps.specs.At.{EndsThere, FlushesThere, PutsThere, SideDoesThere, Spot};
-ghost use Rattle.section_steps.specs.SideClauses.{HasWorked, IsPopped, SaysFlush, SaysPull};
-ghost use Rattle.section_steps.specs.SideClauses.{SaysRead, SaysRotate};
+ghost use Rattle.section_steps.specs.SideClauses.{IsPopped, SaysFlush, SaysPull, SaysRead};
+ghost use Rattle.section_steps.specs.SideClauses.{SaysRotate};
 
 use disk_model::Disk;
 
@@ -16,8 +16,7 @@ use disk_model::Disk;
 /// kept, and goes before what the queue holds: of these two the station's queue is made up.
 pub fn each_note_put_is_pulled<D: Disk>()
     ensures { (at : Spot) (old new : Side D D.Disk) (items left : List Note)
-        → EndsThere at old items → (says : SaysPull old new) → HasWorked old says.puts.more
-        → IsPopped old items new left
+        → EndsThere at old items → (says : SaysPull old new) → IsPopped old items new left
         → SideDoesThere at (map (λ (note : Note). Pulls at.rank) says.puts.more) new left }
 {}
 

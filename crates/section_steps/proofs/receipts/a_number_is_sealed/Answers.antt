@@ -1,5 +1,5 @@
-use Rattle.section_steps.proofs.OfReceipts.{already, seal}
+use Rattle.section_steps.proofs.OfReceipts.{seal}
 use Rattle.section_steps.proofs.receipts.a_number_is_sealed.Goals as goal
 
 pub returns : goal.returns
-returns g c = record { noted = seal; already = already }
+returns g c = seal
