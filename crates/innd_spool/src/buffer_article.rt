@@ -131,8 +131,8 @@ fn find_front<L: Looks>(
     ensures fits { IfOk result (λ found. (24 ≤ found.1) × (found.1 ≤ length front.new)) }
     ensures head { IfOk result
         (λ found. Shows (L.contents buffer.old) (L.moment buffer.old) offset found.0) }
-    ensures text { IfOk result (λ found. (size : ℕ) → Shows (L.contents buffer.old) (L.moment buffer.old)
-        (offset + 24) (take size (slice_range front.new 24 found.1))) }
+    ensures text { IfOk result (λ found. (size : ℕ) → Shows (L.contents buffer.old)
+        (L.moment buffer.old) (offset + 24) (take size (slice_range front.new 24 found.1))) }
     ensures contents { L.contents buffer.new ≡ L.contents buffer.old }
     ensures moment { OnOk result (L.moment buffer.new ≡ L.moment buffer.old + L.tick) }
 {

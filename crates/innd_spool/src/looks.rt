@@ -1,5 +1,6 @@
 // Looks at a file in which innd writes meanwhile.
-ghost use Rattle.std.specs.Prelude.{◌≡◌, ◌+◌, ◌≤◌, ℕ, List, Option, None, IfOk, OnOk, length, slice_range, take};
+ghost use Rattle.std.specs.Prelude.{◌≡◌, ◌+◌, ◌≤◌, ℕ, List, Option, None, IfOk, OnOk};
+ghost use Rattle.std.specs.Prelude.{length, slice_range, take};
 ghost use Rattle.innd_spool.specs.Buffers.{Shows};
 
 use std::io::{self, ErrorKind};
@@ -35,8 +36,8 @@ pub(crate) trait Looks {
         ensures within { IfOk result (λ count. count ≤ length octets.new) }
         ensures front { IfOk result (λ count. (size : ℕ) → size ≤ count
             → Shows (contents self.old) (moment self.old) offset (take size octets.new)) }
-        ensures parts { IfOk result (λ count. (start size : ℕ) → Shows (contents self.old) (moment self.old)
-            (offset + start) (take size (slice_range octets.new start count))) }
+        ensures parts { IfOk result (λ count. (start size : ℕ) → Shows (contents self.old)
+            (moment self.old) (offset + start) (take size (slice_range octets.new start count))) }
         ensures contents { contents self.new ≡ contents self.old }
         ensures moment { OnOk result (moment self.new ≡ moment self.old + tick) };
 }
