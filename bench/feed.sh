@@ -63,13 +63,6 @@ from_bare() {
 }
 # spent: microseconds of the last timed command an article.
 spent() { awk -v count="$count" '{ printf "%.1f", ($1 + $2) * 1000000 / count }' times; }
-# synced: microseconds that a write of one octet and its fdatasync take.
-synced() {
-  local began
-  began=$(date +%s%N)
-  dd if=/dev/zero of=probe bs=1 count=100 oflag=dsync 2>/dev/null
-  echo $((($(date +%s%N) - began) / 100000))
-}
 # each_size COMMAND ..: runs it for articles of each size.
 each_size() {
   for size in 1024 4096 32768; do

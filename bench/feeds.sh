@@ -10,6 +10,26 @@ surroundings=()
 
 cc -O2 -o sink "$top/bench/sink.c"
 
+# slow_disk: from here on each sync of a program that has `surroundings` takes 5 ms longer.
+slow_disk() {
+  cc -O2 -shared -fPIC -o slow_disk.so "$top/bench/slow_disk.c"
+  surroundings=(SYNC_MS=5 LD_PRELOAD="$run/slow_disk.so")
+}
+
+# synced: microseconds that a write of one octet and its fdatasync take.
+synced() {
+  local began
+  began=$(now)
+  dd if=/dev/zero of=probe bs=1 count=100 oflag=dsync 2>/dev/null
+  echo $((($(now) - began) / 100))
+}
+
+# note_taken NUMBER: reads what a run prints, and writes the microsecond of `taken NUMBER` into the file taken.
+note_taken() {
+  local word number
+  while read -r word number; do [ "$word $number" != "taken $1" ] || now >taken; done
+}
+
 # inn_conf SPOOL: what INN's innfeed wants to be there, if this is innd's spool.
 inn_conf() {
   mkdir -p inn

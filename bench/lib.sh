@@ -98,6 +98,9 @@ best() {
 # beyond OURS LESS: what ours takes more than that, in nanoseconds, and one at least.
 beyond() { echo $(($1 > $2 ? $1 - $2 : 1)); }
 
+# now: the microsecond that it is.
+now() { echo "${EPOCHREALTIME/[.,]/}"; }
+
 # ratio WORDS OURS OTHER: prints what is measured, how many times the other time ours is, and the commit.
 ratio() {
   awk -v words="$1" -v ours="$2" -v other="$3" -v commit="$commit" \

@@ -1,45 +1,62 @@
 #!/usr/bin/env bash
-# peers.sh [ARTICLES [RUNS [WORD ..]]]: what a delivery costs if there are many peers: 2, 10, 100 and 1,000, all of them
-# at one port in memory (bench/sink.c, built by cc), over two connections each. An article has 1 KiB, and about ARTICLES
-# (40,000) deliveries are made in a run. The peers' backlogs are
+# peers.sh [ARTICLES [RUNS [WORD ..]]]: what many peers cost: 2, 10, 100, 200 and 1,000 of them, all at one port in
+# memory (bench/sink.c, built by cc), over two connections each. An article has 1 KiB. The peers' backlogs lie
 #   disk: among the temporary files;
 #   memory: in /dev/shm;
-#   slow: as disk, where each sync of a file takes 5 ms longer (bench/slow_disk.c, built by cc).
-# WORDs choose from these three and from the numbers of peers; without any all are measured, and 2 peers always are.
-# Each run begins with tapes that owe nothing. Of each number of peers it prints, by the best of RUNS runs (3) and by
-# the middle one:
-#   - if each article goes to all peers, and if each goes to one of them by turns: the deliveries a second from the
-#     first to the last; how long the run is, the start and the first syncs included; the processor time of each, less
-#     that of a run with nothing to feed; how many times that of 2 peers it is; and which part came after a CHECK: each
-#     connection begins with them, so many peers get more;
-#   - if the funnel has one line for each peer: the time from the start to the last `taken`, how many times that of 2
-#     peers it is, and what a run with nothing to feed takes.
-# $INNFEED names another program to measure.
+#   slow: as disk, where each sync of a file takes 5 ms longer (bench/slow_disk.c, built by cc);
+# and of the funnels
+#   all: each article goes to all peers;
+#   one: each article goes to one of them, by turns;
+#   each: there is one line for each peer, and no more.
+# The first two make about ARTICLES deliveries (60,000). A part is a funnel at a place. WORDs choose from the places,
+# the funnels and the numbers of peers; of these three all are measured of which none is named, and 2 peers always are.
+# Where syncs take longer 1,000 peers get `each` alone, unless numbers are named: a run starts with four syncs for each
+# peer, one after the other, and so takes minutes.
 #
-# This takes a quarter of an hour, most of it with 1,000 peers on the slow disk, and then the system has to allow 4,100
-# open files (ulimit -Hn). Other programs that run at the same time move these. It fails on none; it ends with 1 if a
-# run does not deliver all.
+# Each run begins with tapes that owe nothing. By the best of RUNS runs, and by the middle one, it prints, and in
+# brackets how many times that of 2 peers it is:
+#   - the processor time of a delivery, by the feeder's process alone: of the whole run, its start included (aim: 1.15
+#     times with 200 peers, with 1,000 1.3 times, or 1.5 if articles go to one of them), and without what a run takes
+#     that has nothing to feed;
+#   - the deliveries a second from the first to the last;
+#   - the time from the start to the last `taken` (aim for `each` with 1,000 peers: 300 ms on a disk whose sync takes
+#     0.2 ms, and 2 s where it takes 5 ms), and to the end;
+#   - how many deliveries in a hundred came after a CHECK: each connection begins with them, so many peers get more.
+# Of `each` it prints the times alone. Without RUNS there are three, or fewer, so that a part takes a minute: a further
+# round over all numbers of peers begins only if it would end within that, were it as long as the one before. The first
+# can take longer where other programs work the disk.
+#
+# $INNFEED names another program to measure. If $BEFORE names another checkout of this repository, in which the program
+# is built, both run by turns, and how many times its figures ours are is printed, too.
+#
+# With 1,000 peers the system has to allow 4,100 open files (ulimit -Hn). Other programs that run at the same time move
+# these. It fails on no figure: it ends with 1 if a line is not taken, or a delivery not made, or if debts are left.
 . "$(dirname "$(readlink -f "${BASH_SOURCE[0]}")")/lib.sh"
-total=${1:-40000} runs=${2:-3} places=() numbers=()
+total=${1:-60000} runs=${2:-} places=() kinds=() numbers=()
 for word in "${@:3}"; do
   case $word in
     disk | memory | slow) places+=("$word") ;;
-    '' | *[!0-9]* | 0*) echo "peers.sh: $word is neither disk, memory, slow nor a number of peers" >&2; exit 64 ;;
-    2) ;;
+    all | one | each) kinds+=("$word") ;;
+    '' | *[!0-9]* | 0* | 1)
+      echo "peers.sh: $word is neither disk, memory, slow, all, one, each nor a number of peers from 2 on" >&2
+      exit 64
+      ;;
     *) numbers+=("$word") ;;
   esac
 done
 [ ${#places[@]} -gt 0 ] || places=(disk memory slow)
-[ $# -gt 2 ] && [[ " ${*:3} " == *[0-9]* ]] || numbers=(10 100 1000)
-most=2
-for word in "${numbers[@]}"; do [ "$word" -le "$most" ] || most=$word; done
+[ ${#kinds[@]} -gt 0 ] || kinds=(all one each)
+named=${#numbers[@]}
+[ "$named" -gt 0 ] || numbers=(10 100 200 1000)
+mapfile -t numbers < <(printf '%s\n' 2 "${numbers[@]}" | sort -nu)
+most=${numbers[-1]}
 
 # What the system has to allow: of a feeder two open files for each peer and one for each connection, and some more.
 [ "$most" -le 2000 ] || { echo 'peers.sh: bench/sink.c serves 2,000 peers at most' >&2; exit 64; }
 allowed=$(ulimit -Sn) wanted=$((4 * most + 100))
 if [ "$allowed" != unlimited ] && [ "$allowed" -lt "$wanted" ] && ! ulimit -Sn "$wanted" 2>/dev/null; then
   echo "peers.sh: $most peers want $wanted open files, and the limit is $(ulimit -Hn): raise it (ulimit -Hn)" >&2
-  exit 1
+  exit 70
 fi
 allowed=$(cat /proc/sys/net/core/somaxconn 2>/dev/null || echo 4096)
 if [ "$allowed" -lt $((2 * most)) ]; then
@@ -47,181 +64,208 @@ if [ "$allowed" -lt $((2 * most)) ]; then
 fi
 if [[ " ${places[*]} " == *' memory '* ]] && [ ! -w /dev/shm ]; then
   echo 'peers.sh: there is no /dev/shm to write to: name disk and slow alone' >&2
-  exit 1
+  exit 70
 fi
+[ -z "${BEFORE-}" ] || built "$BEFORE" innfeed
 choose_feeder
+declare -A programs=([ours]=$ours)
+turns=(ours)
+[ -z "${BEFORE-}" ] || { programs[theirs]=$BEFORE/crates/innfeed/out/innfeed turns=(ours theirs); }
 run=$(mktemp -d)
 memory=
 trap 'kill $(jobs -p) 2>/dev/null || true; rm -rf "$run" ${memory:+"$memory"}' EXIT
 cd "$run"
 . "$top/bench/feeds.sh"
-cc -O2 -shared -fPIC -o slow_disk.so "$top/bench/slow_disk.c"
 [[ " ${places[*]} " != *' memory '* ]] || memory=$(mktemp -d -p /dev/shm)
 
-# now: the microsecond that it is.
-now() { echo "${EPOCHREALTIME/[.,]/}"; }
-
-# lines KIND PEERS: the funnel KIND, and sets count and deliveries.
+# lines KIND: the funnel, and sets count and deliveries.
 lines() {
   case $1 in
-    all) count=$((total / $2 > 20 ? total / $2 : 20)) deliveries=$((count * $2)) ;;
+    all) count=$((total / peers > 20 ? total / peers : 20)) deliveries=$((count * peers)) ;;
     one) count=$total deliveries=$total ;;
-    each) count=$2 deliveries=$2 ;;
+    each) count=$peers deliveries=$peers ;;
     none) count=0 deliveries=0 ;;
   esac
-  awk -v kind="$1" -v peers="$2" -v count="$count" -v files="$files" 'BEGIN {
+  awk -v kind="$1" -v peers="$peers" -v count="$count" -v files="$files" 'BEGIN {
     for (n = 1; n <= peers; n++) all = all " p" n
     for (n = 1; n <= count; n++) {
       print (n - 1) % files + 1, "<" n "@bench>" (kind == "all" ? all : " p" (n - 1) % peers + 1)
     }
-  }' >"$1"
+  }' >funnel
 }
 
-# configure PEERS: their configuration, all at the port of the one that listens.
+# configure PORT: all peers at it.
 configure() {
   settings 2
-  awk -v peers="$1" -v port="${ports[0]}" 'BEGIN {
+  awk -v peers="$peers" -v port="$1" 'BEGIN {
     for (n = 1; n <= peers; n++) print "peer p" n " { ip-name: 127.0.0.1 port-number: " port " }"
   }' >>conf
 }
 
 # failed WORDS: ends the script, and says what the run has told last.
 failed() {
-  echo "peers.sh: $peers peers, $place: $1; the run's last words: $(tail -n 1 log 2>/dev/null)" >&2
+  echo "peers.sh: $who, $place, $peers peers, $kind: $1; the run's last words: $(tail -n 1 log 2>/dev/null)" >&2
   exit 1
 }
 
-# feed KIND: one run. The file times has its processor seconds, and began, ended and taken its microseconds: the start,
-# the end, the last line taken.
+# feed: one run. The file times has its processor seconds, and began, ended and taken its microseconds: the start, the
+# end, the last line taken.
 feed() {
-  local TIMEFORMAT='%U %S' word number
+  local TIMEFORMAT='%U %S'
   rm -f taken
   began=$(now)
-  { time timeout --foreground 900 env "${surroundings[@]}" "$ours" -c conf "$1" 2>log </dev/null; } 2>times |
-    while read -r word number; do [ "$word $number" != "taken $count" ] || now >taken; done ||
-    failed 'innfeed failed, or took 15 minutes'
-  ended=$(now)
-  [ "$count" = 0 ] || { [ -s taken ] && taken=$(<taken); } || failed "line $count was not taken"
-}
-
-# fresh: the tapes of these peers as they were made.
-fresh() {
-  rm -rf "$backlog"
-  cp -r "$home/tapes" "$backlog"
-  sync -f "$backlog"
+  { time timeout --foreground -k 5 300 env "${surroundings[@]}" "${programs[$who]}" -c conf funnel 2>log </dev/null; } \
+    2>times | note_taken "$count" && ended=$(now) || ended=badly
 }
 
 # spent: the processor microseconds of the last run.
-spent() { awk '{ printf "%.0f\n", ($1 + $2) * 1e6 }' times; }
+spent() { awk '{ printf "%.0f", ($1 + $2) * 1e6 }' times; }
 
-# turn KIND: one run of this kind. Its figures go to KIND.rate, KIND.spent, KIND.checks (per cent), KIND.whole and
-# KIND.taken.
-turn() {
-  local got
-  lines "$1" "$peers"
-  fresh
-  listen
-  configure "$peers"
-  feed "$1"
-  spent >>"$1.spent"
-  rate >>"$1.rate"
-  got=$(sed -n 's/.*accepted=\([0-9]*\).*/\1/p' told.1)
-  [ "$got" = "$deliveries" ] || failed "${got:-none} of $deliveries deliveries were made"
-  sed -n 's/.* c238=\([0-9]*\).*/\1/p' told.1 |
-    awk -v all="$deliveries" '{ printf "%.0f\n", 100 * $1 / all }' >>"$1.checks"
-  echo $((ended - began)) >>"$1.whole"
-  echo $((taken - began)) >>"$1.taken"
-}
+# owed: how many debts are left.
+owed() { "${programs[$who]}" -c conf --owed | wc -l; }
 
-# idle: one run with nothing to feed: its processor time goes to idle.spent, its time to idle.whole.
-idle() {
-  lines none "$peers"
-  fresh
-  feed none
-  spent >>idle.spent
-  echo $((ended - began)) >>idle.whole
-}
-
-# tapes: new ones of these peers, by a run with nothing to feed on the disk as it is.
+# tapes: for each program and each number of peers those that a run with nothing to feed makes.
 tapes() {
-  local surroundings=()
-  cleared
-  ports=(1)
-  configure "$peers"
-  lines none "$peers"
-  feed none
-  rm -rf "$home/tapes"
-  mv "$backlog" "$home/tapes"
-}
-
-# a_delivery KIND COMMAND: the processor microseconds of a delivery, by the run that COMMAND chooses.
-a_delivery() {
-  awk -v some="$("$2" "$1.spent")" -v idle="$("$2" idle.spent)" -v all="$deliveries" \
-    'BEGIN { printf "%.2f\n", (some > idle ? some - idle : 1) / all }'
-}
-
-# beside KEY NUMBER: sets `beside_two` to how many times that of 2 peers it is, of which it keeps the number.
-declare -A of_two
-beside() {
-  [ "$peers" != 2 ] || of_two[$1]=$2
-  beside_two=$(awk -v ours="$2" -v two="${of_two[$1]}" 'BEGIN { printf "%.2f times", ours / (two > 0 ? two : 1) }')
-}
-
-# milliseconds FILE COMMAND: the microseconds in the file that COMMAND chooses, as milliseconds.
-milliseconds() { "$2" "$1" | awk '{ printf "%.1f ms", $1 / 1000 }'; }
-
-# tell KIND WORDS: prints what the runs of this kind were.
-tell() {
-  local best middle line
-  lines "$1" "$peers"
-  best=$(a_delivery "$1" least) middle=$(a_delivery "$1" middle)
-  beside "$place $1 best" "$best"
-  line="$where, $peers peers, $2: $(greatest "$1.rate") deliveries a second, in $(milliseconds "$1.whole" least)"
-  line+=", $best us of processor each"
-  line+=", $beside_two that of 2 peers, $(middle "$1.checks") % after a CHECK"
-  beside "$place $1 middle" "$middle"
-  line+="; by the middle of $runs runs $(middle "$1.rate"), $(milliseconds "$1.whole" middle), $middle us"
-  echo "$line, $beside_two ($commit)"
-}
-
-# tell_taken: prints when the last line was taken.
-tell_taken() {
-  local line
-  beside "$place taken best" "$(least each.taken)"
-  line="$where, $peers peers, one line to each: the last is taken after $(milliseconds each.taken least)"
-  line+=", $beside_two that of 2 peers"
-  beside "$place taken middle" "$(middle each.taken)"
-  line+="; by the middle of $runs runs $(milliseconds each.taken middle), $beside_two"
-  echo "$line; a run with nothing to feed takes $(milliseconds idle.whole least), and" \
-    "$(milliseconds idle.spent least) of processor ($commit)"
-}
-
-# at_place: all numbers of peers, with their backlogs here.
-at_place() {
-  local peers number kind
-  for peers in 2 "${numbers[@]}"; do
-    tapes
-    rm -f ./*.{rate,spent,checks,taken,whole}
-    for ((number = 0; number < runs; number++)); do
-      idle
-      for kind in all one each; do turn "$kind"; done
+  local place='new tapes' kind=none peers who
+  for peers in "${numbers[@]}"; do
+    for who in "${turns[@]}"; do
+      cleared
+      configure 1
+      lines none
+      feed
+      [ "$ended" != badly ] || failed 'innfeed failed'
+      mv "$backlog" "tapes.$who.$peers"
     done
-    tell all 'each article to all'
-    tell one 'each article to one by turns'
-    tell_taken
   done
 }
 
+# turn: one run of this program, with so many peers and this kind of funnel, from tapes that owe nothing. A line goes to
+# the file figures: who, kind, peers; the processor microseconds of a delivery, the same without those of a run that has
+# nothing to feed, deliveries a second, the milliseconds to the last `taken` and to the end, and how many deliveries in
+# a hundred came after a CHECK.
+turn() {
+  local got checks rate
+  lines "$kind"
+  rm -rf "$backlog"
+  cp -r "$run/tapes.$who.$peers" "$backlog"
+  sync -f "$backlog"
+  listen
+  configure "${ports[0]}"
+  feed
+  kill "${sinks[@]}"
+  wait "${sinks[@]}" || true
+  read -r got rate checks < <(sed -nE 's/^accepted=(\S+) .* art_per_s=(\S+) .* c238=(\S+) .*/\1 \2 \3/p' told.1)
+  [ "$ended" != badly ] || failed "innfeed failed, or took 5 minutes: $got of $deliveries deliveries, $(owed) are owed"
+  if [ "$kind" = none ]; then
+    idle[$who]=$(spent)
+  else
+    [ -s taken ] || failed "line $count was not taken"
+    [ "$got $(owed)" = "$deliveries 0" ] || failed "$got of $deliveries deliveries, $(owed) are owed"
+    awk -v words="$who $kind $peers" -v spent="$(spent)" -v idle="${idle[$who]}" -v count="$deliveries" \
+      -v rate="$rate" -v taken=$(($(<taken) - began)) -v whole=$((ended - began)) -v checks="$checks" 'BEGIN {
+      printf "%s %.2f %.2f %d %.1f %.1f %.0f\n", words, spent / count, (spent > idle ? spent - idle : 1) / count, rate,
+        taken / 1000, whole / 1000, 100 * checks / count
+    }' >>figures
+  fi
+}
+
+# round FUNNEL: a run of each program with each number of peers; those of the processor time after one with nothing to
+# feed.
+round() {
+  local peers kind who
+  local -A idle=([ours]=0 [theirs]=0)
+  for peers in "${numbers[@]}"; do
+    [ "$place $1 $named" != "slow $1 0" ] || [ "$1" = each ] || [ "$peers" -lt 1000 ] || continue
+    for who in "${turns[@]}"; do
+      for kind in none "$1"; do
+        [ "$kind $1" = 'none each' ] || turn
+      done
+    done
+  done
+}
+
+# chosen WAY KIND: of each program and number of peers a line of the figures that are the best of its runs, or the
+# middle ones.
+chosen() {
+  awk -v way="$1" -v kind="$2" '
+    # Keeps the numbers of a key in order.
+    function keep(key, value, at) {
+      for (at = ++held[key]; at > 1 && kept[key, at - 1] + 0 > value + 0; at--) kept[key, at] = kept[key, at - 1]
+      kept[key, at] = value
+    }
+    $2 == kind {
+      if (!(($1 " " $3) in held)) keys[++last] = $1 " " $3
+      held[$1 " " $3]++
+      for (at = 4; at <= NF; at++) keep($1 " " $3 " " at, $at)
+    }
+    END {
+      for (n = 1; n <= last; n++) {
+        runs = held[keys[n]]
+        line = keys[n]
+        for (at = 4; at <= 9; at++) {
+          place = way == "middle" ? int((runs + 1) / 2) : at == 6 ? runs : 1
+          line = line " " kept[keys[n] " " at, place]
+        }
+        print line, runs
+      }
+    }' figures
+}
+
+# tell WAY KIND: prints a table of these figures.
+tell() {
+  chosen "$1" "$2" | awk -v way="$1" -v kind="$2" -v where="$where" -v title="${titles[$2]}" -v place="$place" \
+    -v commit="$commit" '
+    function times(value, other) { return sprintf("%.2f", value / (other > 0 ? other : 1)) }
+    # The figure of this column, how many times that of 2 peers it is, and its aim in these words.
+    function figure(at, aim) {
+      if ($2 == 2) two[$1, at] = $at
+      return $at ($2 == 2 ? "" : " (" times($at, two[$1, at]) (aim ? ", " aim : "") ")")
+    }
+    function row(label, processor, less, rate, taken, end, checks) {
+      if (kind == "each") printf "  %-13s %-28s %s\n", label, taken, end
+      else printf "  %-13s %-23s %-14s %-14s %-16s %-16s %s\n", label, processor, less, rate, taken, end, checks
+    }
+    NR == 1 {
+      printf "%s, %s, the %s of %d runs (%s)\n", where, title, way, $9, commit
+      row("peers", "us a delivery", "without start", "a second", "last taken, ms", "end, ms", "CHECKs, %")
+    }
+    {
+      row($1 == "ours" ? $2 : "  before",
+        figure(3, $2 == 200 ? "aim 1.15" : $2 != 1000 ? "" : kind == "all" ? "aim 1.30" : "aim 1.50"),
+        figure(4), figure(5),
+        figure(6, kind != "each" || $2 != 1000 || place == "memory" ? "" : "aim " (place == "slow" ? 2000 : 300) " ms"),
+        figure(7), $8)
+    }
+    $1 == "ours" { for (at = 3; at <= 8; at++) ours[at] = $at }
+    $1 == "theirs" {
+      row("  ours to it", times(ours[3], $3), times(ours[4], $4), times(ours[5], $5), times(ours[6], $6),
+        times(ours[7], $7), $8 > 0 ? times(ours[8], $8) : "-")
+    }'
+}
+
+# part FUNNEL: its rounds at this place, and what they gave.
+part() {
+  local since=$SECONDS started number
+  rm -f figures
+  for ((number = 1; ; number++)); do
+    started=$SECONDS
+    round "$1"
+    [ "$number" -lt "${runs:-3}" ] || break
+    [ -n "$runs" ] || [ $((2 * SECONDS - started - since)) -le 60 ] || break
+  done
+  tell best "$1"
+  [ "$number" -lt 3 ] || tell middle "$1"
+}
+
+declare -A titles=([all]='each article to all' [one]='each to one by turns' [each]='a line for each')
 articles 1024 1000
-echo "load $(cut -d ' ' -f 1-3 /proc/loadavg), $(nproc) processors"
+tapes
 for place in "${places[@]}"; do
-  home=$run surroundings=()
+  backlog=$run/backlog surroundings=() where='on the disk'
   case $place in
-    disk) where='on the disk' ;;
-    memory) where='in memory' home=$memory ;;
-    slow) where='with syncs of 5 ms more' surroundings=(SYNC_MS=5 LD_PRELOAD="$run/slow_disk.so") ;;
+    memory) backlog=$memory/backlog where='in memory' ;;
+    slow) slow_disk && where='with syncs of 5 ms more' ;;
   esac
-  backlog=$home/backlog
-  at_place
+  echo "$where: load $(cut -d ' ' -f 1-3 /proc/loadavg), $(nproc) processors, a sync of the disk takes $(synced) us"
+  for kind in "${kinds[@]}"; do part "$kind"; done
 done
-echo "load $(cut -d ' ' -f 1-3 /proc/loadavg)"

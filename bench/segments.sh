@@ -37,13 +37,13 @@ worked_off() {
     }
   }'
   sync -f funnel
-  began=${EPOCHREALTIME/[.,]/}
+  began=$(now)
   "$top/crates/innfeed/out/innfeed" -c innfeed.conf --follow --tidy funnel >/dev/null 2>log &
   while [ -e "$(printf 'funnel/%020d' $(($1 - 1)))" ]; do
     kill -0 $! 2>/dev/null || { cat log >&2; exit 1; }
     sleep 0.005
   done
-  echo "${EPOCHREALTIME/[.,]/}" >ended
+  now >ended
   touch backlog/~stop
   wait $! || { cat log >&2; exit 1; }
   echo $(($1 * 1000000 / ($(<ended) - began))) >>"rates.$1"

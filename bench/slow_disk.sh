@@ -26,27 +26,21 @@ run=$(mktemp -d)
 trap 'kill $(jobs -p) 2>/dev/null || true; rm -rf "$run"' EXIT
 cd "$run"
 . "$top/bench/feeds.sh"
-cc -O2 -shared -fPIC -o slow_disk.so "$top/bench/slow_disk.c"
-
-surroundings=(SYNC_MS=5 LD_PRELOAD="$run/slow_disk.so")
+slow_disk
 
 # per_second BEGAN ENDED: the lines a second between these microseconds.
 per_second() { echo $((count * 1000000 / ($2 - $1))); }
 
-# now: the microsecond that it is.
-now() { echo "${EPOCHREALTIME/[.,]/}"; }
-
 # fed CHECKOUT PEERS NAME: one run; its lines a second go to NAME.taken and NAME.whole.
 fed() {
-  local began word number
+  local began
   cleared
   listen "$2"
   settings 2 "${ports[@]}"
   rm -f taken
   began=$(now)
-  env "${surroundings[@]}" "$1/crates/innfeed/out/innfeed" -c conf "funnel.$2" 2>log | while read -r word number; do
-    [ "$word $number" != "taken $count" ] || now >taken
-  done || { cat log >&2; exit 1; }
+  env "${surroundings[@]}" "$1/crates/innfeed/out/innfeed" -c conf "funnel.$2" 2>log | note_taken "$count" ||
+    { cat log >&2; exit 1; }
   per_second "$began" "$(now)" >>"$3.whole"
   per_second "$began" "$(<taken)" >>"$3.taken"
   hush
