@@ -1,5 +1,5 @@
 // The files in which an administrator sees each peer while a run goes on.
-ghost use Rattle.std.specs.Prelude.{◌≡◌, false};
+ghost use Rattle.std.specs.Prelude.{◌≡◌};
 
 use crate::placed_file::place;
 use crate::run_error::{RunError, log_reason};
@@ -8,7 +8,7 @@ use feed_ends::FeedEnd;
 use flusher::{Naming, Post};
 use funnel::PeerName;
 use log::Log;
-use peer_counts::{CountTable, LivePeer};
+use peer_counts::{CountTable, LivePeer, PeerFigures, PeerPhase};
 use status::{LiveReport, LiveStatus, write_json, write_metrics};
 use std::alloc::{AllocError, Global};
 use std::fs::File;
@@ -21,8 +21,8 @@ use std::time::{Instant, SystemTime, UNIX_EPOCH};
 #[derive(Drop)]
 pub struct LiveFiles<'a, F> {
     files: &'a F,
-    json: Option<Vec<u8>>,
-    metrics: Option<Vec<u8>>,
+    json: Option<LiveFile>,
+    metrics: Option<LiveFile>,
     // How often they are written, in seconds.
     period: u64,
     // What the feeders publish.
@@ -33,7 +33,16 @@ pub struct LiveFiles<'a, F> {
     written: Instant,
     // Up to which number lines were acknowledged then.
     acknowledged: u64,
-    // Whether it was logged and reported that one cannot be written.
+    // When the run began, in seconds since 1970, once they were written: what a reader takes for a start stays.
+    started: Option<u64>,
+    // Since which second of the run each peer's tape is seen to have failed, if it has.
+    failed: Vec<Option<u64>>,
+}
+
+// One of the files, and whether it was told that it cannot be written.
+#[derive(Drop)]
+struct LiveFile {
+    path: Vec<u8>,
     is_told: bool,
 }
 
@@ -50,18 +59,18 @@ impl<'a, F: AllocGlobal + Files<File = File>> LiveFiles<'a, F> {
     ) -> Self
         ensures period { result.period ≡ period }
         ensures start { (result.start ≡ start) × (result.written ≡ start) }
-        ensures told { result.is_told ≡ false }
     {
         LiveFiles {
             files,
-            json,
-            metrics,
+            json: file_at(json),
+            metrics: file_at(metrics),
             period,
             counts,
             start,
             written: start,
             acknowledged: 0,
-            is_told: false,
+            started: None,
+            failed: Vec::new(files.alloc()),
         }
     }
 
@@ -81,8 +90,8 @@ impl<'a, F: AllocGlobal + Files<File = File>> LiveFiles<'a, F> {
     }
 
     /// Writes both, with the figures of the peers of these names, each into a file beside it, which is renamed to it
-    /// once it is whole. If memory is refused, or one cannot be written, that is added to `end` and the reason is
-    /// logged, the first time.
+    /// once it is whole. If one cannot be written, that is added to `end` and the reason is logged, the first time for
+    /// each. If memory is refused, that is added to `end`.
     pub(crate) fn write<D: Disk, N: Naming, R: Wait + Clock + Log>(
         &mut self,
         rt: &R,
@@ -93,46 +102,30 @@ impl<'a, F: AllocGlobal + Files<File = File>> LiveFiles<'a, F> {
         if let Ok(now) = Instant::now(rt) {
             self.written = now;
         }
-        if let Err(error) = self.try_write(rt, post, names)
-            && !self.is_told
-        {
-            self.is_told = true;
-            error.add_to(end);
+        if self.try_write(rt, post, names, end).is_err() {
+            RunError::OutOfResources.add_to(end);
         }
     }
 
     fn try_write<D: Disk, N: Naming, R: Wait + Clock + Log>(
-        &self,
+        &mut self,
         rt: &R,
         post: &Post<D, N>,
         names: &[PeerName],
-    ) -> Result<(), RunError> {
-        let alloc = self.files.alloc();
+        end: &mut FeedEnd,
+    ) -> Result<(), AllocError> {
+        let (files, alloc) = (self.files, self.files.alloc());
         let live = self.read(alloc, rt, names.len())?;
-        let peers = statuses(alloc, rt, post, names, &live)?;
-        let report = self.report(rt, &peers);
-        let json = match &self.json {
-            Some(path) => self.place(rt, path, &json_of(alloc, &report)?),
-            None => Ok(()),
-        };
-        let metrics = match &self.metrics {
-            Some(path) => self.place(rt, path, &metrics_of(alloc, &report)?),
-            None => Ok(()),
-        };
-        json.and(metrics)
-    }
-
-    // Writes this text into the file at this path.
-    fn place<R: Log>(&self, rt: &R, path: &[u8], text: &[u8]) -> Result<(), RunError> {
-        match place(self.files, path, text) {
-            Ok(()) => Ok(()),
-            Err(error) => {
-                if !self.is_told {
-                    log_reason(rt, path, &error);
-                }
-                Err(RunError::unwritten(self.files.alloc(), path, &error))
-            }
+        let uptime = self.uptime(rt);
+        let peers = self.statuses(alloc, rt, post, names, &live, uptime)?;
+        let report = self.report(rt, &peers, uptime);
+        if let Some(json) = &mut self.json {
+            json.write(rt, files, &json_of(alloc, &report)?, end);
         }
+        if let Some(metrics) = &mut self.metrics {
+            metrics.write(rt, files, &metrics_of(alloc, &report)?, end);
+        }
+        Ok(())
     }
 
     // What the feeders have published of each peer, by its index.
@@ -151,20 +144,125 @@ impl<'a, F: AllocGlobal + Files<File = File>> LiveFiles<'a, F> {
         Ok(live)
     }
 
-    // What is reported, at this moment.
-    fn report<'b, R: Clock>(&self, rt: &R, peers: &'b [LiveStatus<'b>]) -> LiveReport<'b> {
-        let uptime = match self.start.elapsed(rt) {
+    // For how many seconds the run has gone on; 0 if the clock can't be read.
+    fn uptime<R: Clock>(&self, rt: &R) -> u64 {
+        match self.start.elapsed(rt) {
             Ok(passed) => passed.as_secs(),
             Err(_) => 0,
+        }
+    }
+
+    // The figures of each peer, in this second of the run.
+    fn statuses<'b, D: Disk, N: Naming, R: Wait>(
+        &mut self,
+        alloc: Global,
+        rt: &R,
+        post: &Post<D, N>,
+        names: &'b [PeerName],
+        live: &'b Vec<LivePeer>,
+        uptime: u64,
+    ) -> Result<Vec<LiveStatus<'b>>, AllocError> {
+        let mut peers = Vec::new(alloc);
+        for (peer, name) in names.iter().enumerate() {
+            if peer < post.peers()
+                && let Some(one) = live.get(peer)
+            {
+                let reported = post.reported(rt, peer);
+                let failed = self.failed_since(peer, reported.has_failed, uptime)?;
+                peers.push(LiveStatus {
+                    name,
+                    totals: reported.totals,
+                    figures: with_tape(one.figures, failed),
+                    reason: &one.reason,
+                })?;
+            }
+        }
+        Ok(peers)
+    }
+
+    // Since which second of the run the tape of this peer is seen to have failed, if it has by now.
+    fn failed_since(
+        &mut self,
+        peer: usize,
+        has_failed: bool,
+        uptime: u64,
+    ) -> Result<Option<u64>, AllocError> {
+        if self.failed.len() <= peer {
+            self.failed.resize(peer.saturating_add(1), None)?;
+        }
+        let Some(failed) = self.failed.get_mut(peer) else {
+            return Ok(None);
         };
+        *failed = match (has_failed, *failed) {
+            (true, None) => Some(uptime),
+            (true, since) => since,
+            (false, _) => None,
+        };
+        Ok(*failed)
+    }
+
+    // What is reported, in this second of the run.
+    fn report<'b, R: Clock>(
+        &mut self,
+        rt: &R,
+        peers: &'b [LiveStatus<'b>],
+        uptime: u64,
+    ) -> LiveReport<'b> {
         let written = unix_seconds(rt);
+        let started = match self.started {
+            Some(started) => started,
+            None => written.saturating_sub(uptime),
+        };
+        self.started = Some(started);
         LiveReport {
             written,
-            started: written.saturating_sub(uptime),
+            started,
             uptime,
             acknowledged: self.acknowledged,
             peers,
         }
+    }
+}
+
+impl LiveFile {
+    // Writes this text into it. If that fails, it is added to `end` and the reason is logged, the first time.
+    fn write<F: AllocGlobal + Files<File = File>, R: Log>(
+        &mut self,
+        rt: &R,
+        files: &F,
+        text: &[u8],
+        end: &mut FeedEnd,
+    ) {
+        if let Err(error) = place(files, &self.path, text)
+            && !self.is_told
+        {
+            self.is_told = true;
+            log_reason(rt, &self.path, &error);
+            RunError::unwritten(files.alloc(), &self.path, &error).add_to(end);
+        }
+    }
+}
+
+fn file_at(path: Option<Vec<u8>>) -> Option<LiveFile> {
+    match path {
+        Some(path) => Some(LiveFile {
+            path,
+            is_told: false,
+        }),
+        None => None,
+    }
+}
+
+// The figures of a peer whose tape has failed since this second of the run, if it has. A feeder sees that only once it
+// wants the tape.
+fn with_tape(figures: PeerFigures, failed: Option<u64>) -> PeerFigures {
+    match failed {
+        Some(since) if figures.phase != PeerPhase::Failed => PeerFigures {
+            phase: PeerPhase::Failed,
+            since,
+            ..figures
+        },
+        _ => figures,
     }
 }
 
@@ -177,29 +275,6 @@ fn unix_seconds<R: Clock>(rt: &R) -> u64 {
         },
         Err(_) => 0,
     }
-}
-
-fn statuses<'a, D: Disk, N: Naming, R: Wait>(
-    alloc: Global,
-    rt: &R,
-    post: &Post<D, N>,
-    names: &'a [PeerName],
-    live: &'a Vec<LivePeer>,
-) -> Result<Vec<LiveStatus<'a>>, AllocError> {
-    let mut peers = Vec::new(alloc);
-    for (peer, name) in names.iter().enumerate() {
-        if peer < post.peers()
-            && let Some(one) = live.get(peer)
-        {
-            peers.push(LiveStatus {
-                name,
-                totals: post.reported(rt, peer).totals,
-                figures: one.figures,
-                reason: &one.reason,
-            })?;
-        }
-    }
-    Ok(peers)
 }
 
 fn json_of(alloc: Global, report: &LiveReport<'_>) -> Result<Vec<u8>, AllocError> {
